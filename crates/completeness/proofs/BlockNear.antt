@@ -62,8 +62,8 @@ use Rattle.completeness.specs.Laws.{AreSplitOnce}
 use Rattle.completeness.specs.Parted.{KeepsInner}
 use Rattle.completeness.specs.Stores.{AreHeld, IsNearRegion}
 use Rattle.completeness.specs.Simple.{is_simple, are_simple, is_simple_left, has_simple_indices, SimpleIndices}
-use Rattle.completeness.specs.Placed.{IsSettled, ArePlaced, AreLeftsHeld}
-use Rattle.completeness.proofs.LeftHeld.{lefts_held}
+use Rattle.completeness.specs.Placed.{IsSettled, ArePlaced, AreLeftsHeld, AreOwnHeld}
+use Rattle.completeness.proofs.LeftHeld.{lefts_held, owns_held}
 use Rattle.completeness.specs.Blocked.{is_tailed, makes_line, IsKept}
 use Rattle.completeness.specs.Filled.{AreEndsShort, IsNearOrSimple, NearBlockedGroupsOweShown}
 use Rattle.completeness.proofs.Owned.{some_same, same_extents, same_skeleton}
@@ -680,9 +680,9 @@ module _ (a : Algorithm) (sch : Schedule) (l : Lowered) (well : IsAlgorithm a) (
         by z n w h k q = omega (arith, ints, h, k, q)
 
     -- so what is fetched holds the calls
-    held_here : IsNearOrSimple g fs h.extents → (m : LaidText) → slice_get (laid_functions a gs) n ≡ Some (Some m) → m.skeleton ≡ k → skeleton_of g fs m.region ≡ Some m.skeleton → g.formulas ≡ Some fs →
-        ((d j : ℕ) (f : FormulaText) (e : Term) → slice_get fs d ≡ Some f → slice_get f.at j ≡ Some (Some e) → IsSettled a g fs m) →
-        AreHeld a gs n g fs m.skeleton × AreEndsShort rs cuts × AreLeftsHeld a g fs m.region m.skeleton
+    held_here : IsNearOrSimple g fs h.extents → (m : LaidText) → slice_get (laid_functions a gs) n ≡ Some (Some m) → m.skeleton ≡ k → skeleton_of g fs m.region ≡ Some m.skeleton →
+        g.formulas ≡ Some fs →
+        ArePlaced a g fs m → AreHeld a gs n g fs m.skeleton × AreEndsShort rs cuts × AreLeftsHeld a g fs m.region m.skeleton × AreOwnHeld a g fs m.region m.skeleton
     held_here close m found_there same_skeleton_so over defined settled =
         let forms : (d : ℕ) (w : NestText) → slice_get m.skeleton.nests d ≡ Some w → IsFormed xs bs d w =
         λ d w stands. formed_here d w (ap (λ (y : SkeletonText). slice_get y.nests d) (sym same_skeleton_so) ∙ stands) in
@@ -693,12 +693,14 @@ module _ (a : Algorithm) (sch : Schedule) (l : Lowered) (well : IsAlgorithm a) (
           held_near a sch l well legal small kept all groups n g at fs defined m found_there over forms boxes,
           elim close [ inl near ↦ ends_short near | inr simple ↦ simple.1 ],
           lefts_held a sch l well legal small kept all groups n g at fs defined m found_there over forms boxes settled,
+          owns_held a sch l well legal small kept all groups n g at fs defined m found_there over forms boxes settled,
         )
 
   -- of a group of the plan
   pub blocked_held : (n : ℕ) (q : CodeGroup) → slice_get l.plan.groups.items n ≡ Some q → (u : StoredText) → slice_get gs n ≡ Some u → IsKept a sch n u → (fs : List FormulaText) →
       u.formulas ≡ Some fs → (m : LaidText) → slice_get (laid_functions a gs) n ≡ Some (Some m) → ArePlaced a u fs m → IsNearOrSimple u fs m.region →
       AreHeld a gs n u fs m.skeleton × AreEndsShort (loop_numbers u.subject.variables u.placed.cuts m.region) u.placed.cuts × AreLeftsHeld a u fs m.region m.skeleton
+      × AreOwnHeld a u fs m.region m.skeleton
   blocked_held n q theirs u at blocked fs defined m found_there set near =
       let me = made_at a sch l well legal small kept all groups n q theirs in
       let r = alone_body a (roots a sch l well legal small kept all groups) items 0 0 4 gs l.plan.groups.items items l.certificate.needs.items (groups.bodies all)
@@ -733,7 +735,7 @@ module _ (a : Algorithm) (sch : Schedule) (l : Lowered) (well : IsAlgorithm a) (
       let here = held_here n b.first_claim b.line me.stored q b.claims b.needs me.is theirs body begins b.numbered own laid mine.once mine.inners filled few_here close_here
       me.laid me.found skeleton over body.defined
       (λ d j f e at_f at_e. subst (λ (y : LaidText). IsSettled a me.stored body.formulas y) (sym region) (subst (λ (vs : List FormulaText). IsSettled a me.stored vs m) (sym formulas)
-      (subst (λ (y : StoredText). IsSettled a y fs m) (sym stored) (set.settled d j f e (ap (λ (vs : List FormulaText). slice_get vs d) (sym formulas) ∙ at_f) at_e)))) in
+      (subst (λ (y : StoredText). IsSettled a y fs m) (sym stored) (set d j f e (ap (λ (vs : List FormulaText). slice_get vs d) (sym formulas) ∙ at_f) at_e)))) in
       let held_there : AreHeld a gs n u fs m.skeleton =
       subst (λ (y : LaidText). AreHeld a gs n u fs y.skeleton) region
       (subst (λ (vs : List FormulaText). AreHeld a gs n u vs me.laid.skeleton) formulas (subst (λ (y : StoredText). AreHeld a gs n y body.formulas me.laid.skeleton) stored here.0)) in
@@ -745,10 +747,14 @@ module _ (a : Algorithm) (sch : Schedule) (l : Lowered) (well : IsAlgorithm a) (
       subst (λ (y : LaidText). AreLeftsHeld a u fs y.region y.skeleton) region
       (subst (λ (vs : List FormulaText). AreLeftsHeld a u vs me.laid.region me.laid.skeleton) formulas
       (subst (λ (y : StoredText). AreLeftsHeld a y body.formulas me.laid.region me.laid.skeleton) stored here.2)) in
-      (held_there, short_there, lefts_there)
+      let own_there : AreOwnHeld a u fs m.region m.skeleton =
+      subst (λ (y : LaidText). AreOwnHeld a u fs y.region y.skeleton) region
+      (subst (λ (vs : List FormulaText). AreOwnHeld a u vs me.laid.region me.laid.skeleton) formulas
+      (subst (λ (y : StoredText). AreOwnHeld a y body.formulas me.laid.region me.laid.skeleton) stored here.3)) in
+      (held_there, short_there, lefts_there, own_there)
 
 pub near_blocked_owed : NearBlockedGroupsOweShown
 near_blocked_owed a s l well legal small regions groups all free told grids few near n g at u stands blocked fs defined r laid set close =
     let x = from_map group_of l.plan.groups.items n g at in
     let h = blocked_held a s l well legal small (regions all).0 all groups n x.0 x.1 u stands blocked fs defined r laid set close in
-    blocked_owed a s l well legal small regions groups all free told grids few near n g at u stands blocked fs defined r laid set.within h.2 h.0 h.1
+    blocked_owed a s l well legal small regions groups all free told grids few near n g at u stands blocked fs defined r laid h.2 h.3 h.0 h.1

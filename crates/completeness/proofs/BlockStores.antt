@@ -69,7 +69,7 @@ use Rattle.completeness.proofs.NamedClaims.{alone_body}
 use Rattle.completeness.proofs.NestWalk.{LetsFirst}
 use Rattle.completeness.proofs.Joined.{claims_paired}
 use Rattle.completeness.proofs.BlockTurns.{AreBlocks}
-use Rattle.completeness.specs.Placed.{AreSetWithin, AreLeftsHeld}
+use Rattle.completeness.specs.Placed.{GoesOn, AreLeftsHeld, AreOwnHeld}
 use Rattle.completeness.proofs.StoreScopes.{body_bound}
 use Rattle.tree.specs.Term.{Term}
 use Rattle.lin.specs.Forms.{number}
@@ -124,7 +124,7 @@ module _ (a : Algorithm) (sch : Schedule) (l : Lowered) (well : IsAlgorithm a) (
       (keeps : KeepsInner (texts f).placed.loops (texts f).placed.cuts)
       (filled : AllByRecursion (λ c. makes_line (texts f).placed.loops (loop_numbers (texts f).subject.variables (texts f).placed.cuts h.extents) c ≡ false) (texts f).placed.cuts)
       (early : AreEndsShort (loop_numbers (texts f).subject.variables (texts f).placed.cuts h.extents) (texts f).placed.cuts)
-      (set : AreSetWithin (texts f) h.formulas h.extents) (lefts : AreLeftsHeld a (texts f) h.formulas h.extents h.skeleton)
+      (lefts : AreLeftsHeld a (texts f) h.formulas h.extents h.skeleton) (own_indices : AreOwnHeld a (texts f) h.formulas h.extents h.skeleton)
       (bounded : is_bounded a (texts f) (head_scope h.skeleton) (map whole h.extents) 0 h.formulas h.skeleton.nests ≡ Some true) (ended : AllByRecursion IsEnded h.extents)
       (held_parts : AreHeld a (stored_functions a sch) n (texts f) h.formulas h.skeleton) where
     abbrev k : SkeletonText
@@ -174,10 +174,10 @@ module _ (a : Algorithm) (sch : Schedule) (l : Lowered) (well : IsAlgorithm a) (
 
     -- a dimension that a left index sets has no parallel loop, and each piece has all of it
     dims_whole : (j d : ℕ) (u : FormulaText) (e : Term) (x : List ℕ) (z : Extent) → slice_get fs d ≡ Some u → slice_get u.at j ≡ Some (Some e) → slice_get f.variables j ≡ Some x →
-        slice_get h.extents j ≡ Some z → (place_named x ≡ From (number z.low) z.count) × (claim_of_name x ≡ whole z)
+        slice_get h.extents j ≡ Some z → (y : Extent) × GoesOn z y × (place_named x ≡ From (number y.low) y.count) × (claim_of_name x ≡ whole y)
     dims_whole j d u e x z at_u at_e at_x at_z =
         whole_dimension a sch l well legal small kept all groups n first line g q claims needs there theirs h lined numbered alone_here laid split_alone keeps filled j x at_x apart_here
-        (set d j u e at_u at_e) z at_z
+        ended early z at_z
       where
         apart_here : (o : Loop) → In o g.placed.loops → is_parallel o ≡ true → o.dimension ≡ j → ⊥
         apart_here o m parallel dimension =
@@ -195,7 +195,8 @@ module _ (a : Algorithm) (sch : Schedule) (l : Lowered) (well : IsAlgorithm a) (
 
     body_shows : EachLine O R AllShown (statement_of q.body) (body_line plan n) (start (grid_binders q.grid.items))
     body_shows =
-        stores_of.body_shows a sch l well legal small kept all groups told free n q place f at there first line claims needs theirs h hold numbered lined alone_here bounded lefts held_parts
+        stores_of.body_shows a sch l well legal small kept all groups told free n q place f at there first line claims needs theirs h hold numbered lined alone_here bounded lefts
+            own_indices held_parts
         place_named claim_of_name (nests_of.own_places_are a sch l well legal small kept all groups n first line g q claims needs there theirs h lined numbered alone_here laid split_alone keeps
         filled) (nests_of.own_claim_is a sch l well legal small kept all groups n first line g q claims needs there theirs h lined numbered alone_here laid split_alone keeps filled)
         dims_whole laid.long (nests_of.dims a sch l well legal small kept all groups n first line g q claims needs there theirs h lined numbered alone_here laid split_alone keeps filled)
@@ -212,10 +213,10 @@ module _ (a : Algorithm) (sch : Schedule) (l : Lowered) (well : IsAlgorithm a) (
 
   group_at : (n : ℕ) (q : CodeGroup) → slice_get l.plan.groups.items n ≡ Some q → (v : StoredText) → slice_get (stored_functions a sch) n ≡ Some v → IsKept a sch n v →
       (us : List FormulaText) → v.formulas ≡ Some us → (r : LaidText) → slice_get (laid_functions a (stored_functions a sch)) n ≡ Some (Some r) →
-      AreSetWithin v us r.region → AreLeftsHeld a v us r.region r.skeleton → AreHeld a (stored_functions a sch) n v us r.skeleton → AreEndsShort (loop_numbers v.subject.variables
+      AreLeftsHeld a v us r.region r.skeleton → AreOwnHeld a v us r.region r.skeleton → AreHeld a (stored_functions a sch) n v us r.skeleton → AreEndsShort (loop_numbers v.subject.variables
       v.placed.cuts r.region) v.placed.cuts →
       StoresAreShown n (group_of q)
-  group_at n q theirs v stands blocked us defined r found_there set lefts held_parts early =
+  group_at n q theirs v stands blocked us defined r found_there lefts own_indices held_parts early =
       let me = made_at a sch l well legal small kept all groups n q theirs in
       let w = found a sch flags_of me.stored a.functions n me.is in
       let p = alone_body a entries mine 0 0 4 (stored_functions a sch) l.plan.groups.items mine l.certificate.needs.items (groups.bodies all)
@@ -264,25 +265,27 @@ module _ (a : Algorithm) (sch : Schedule) (l : Lowered) (well : IsAlgorithm a) (
       let early_there : AreEndsShort (loop_numbers (texts w.function).subject.variables (texts w.function).placed.cuts body.extents) (texts w.function).placed.cuts =
       subst (λ (es : List Extent). AreEndsShort (loop_numbers (texts w.function).subject.variables (texts w.function).placed.cuts es) (texts w.function).placed.cuts) regions_same
       (subst (λ (u : StoredText). AreEndsShort (loop_numbers u.subject.variables u.placed.cuts r.region) u.placed.cuts) this early) in
-      let set_there : AreSetWithin (texts w.function) body.formulas body.extents =
-      subst (λ (es : List Extent). AreSetWithin (texts w.function) body.formulas es) regions_same
-      (subst (λ (fs : List FormulaText). AreSetWithin (texts w.function) fs r.region) texts_same (subst (λ (u : StoredText). AreSetWithin u us r.region) this set)) in
       let lefts_there : AreLeftsHeld a (texts w.function) body.formulas body.extents body.skeleton =
       subst (λ (k : SkeletonText). AreLeftsHeld a (texts w.function) body.formulas body.extents k) skeletons
       (subst (λ (es : List Extent). AreLeftsHeld a (texts w.function) body.formulas es r.skeleton) regions_same
       (subst (λ (fs : List FormulaText). AreLeftsHeld a (texts w.function) fs r.region r.skeleton) texts_same
       (subst (λ (u : StoredText). AreLeftsHeld a u us r.region r.skeleton) this lefts))) in
+      let own_there : AreOwnHeld a (texts w.function) body.formulas body.extents body.skeleton =
+      subst (λ (k : SkeletonText). AreOwnHeld a (texts w.function) body.formulas body.extents k) skeletons
+      (subst (λ (es : List Extent). AreOwnHeld a (texts w.function) body.formulas es r.skeleton) regions_same
+      (subst (λ (fs : List FormulaText). AreOwnHeld a (texts w.function) fs r.region r.skeleton) texts_same
+      (subst (λ (u : StoredText). AreOwnHeld a u us r.region r.skeleton) this own_indices))) in
       body_shows n q w.place w.function w.at there b.first_claim b.line b.claims b.needs theirs body holding b.numbered begins own limits grid short narrow
-      (few n (group_of q) (at_map group_of l.plan.groups.items n q theirs)) laid mine_so.once mine_so.inners filled early_there set_there lefts_there bounded region held_there
+      (few n (group_of q) (at_map group_of l.plan.groups.items n q theirs)) laid mine_so.once mine_so.inners filled early_there lefts_there own_there bounded region held_there
 
 pub blocked_owed : BlockedGroupsOweShown
-blocked_owed a s l well legal small regions groups all free told grids few near n g at u there blocked fs defined r laid set lefts held_parts early nests takes =
+blocked_owed a s l well legal small regions groups all free told grids few near n g at u there blocked fs defined r laid lefts own_indices held_parts early nests takes =
     let p = plan_of l.plan in
     let c = certificate_of l.certificate in
     let o = outline_of p c n g in
     let rules = rules_of a p c n in
     let x = from_map group_of l.plan.groups.items n g at in
-    let at_group = group_at a s l well legal small (regions all).0 all groups told free grids few n x.0 x.1 u there blocked fs defined r laid set lefts held_parts early in
+    let at_group = group_at a s l well legal small (regions all).0 all groups told free grids few n x.0 x.1 u there blocked fs defined r laid lefts own_indices held_parts early in
     let shown = subst (λ (y : Group). StoresAreShown a s l well legal small (regions all).0 all groups told free grids few n y) (sym x.2) at_group in
     let stores = lines_weaker o rules (λ t i y. IsStoreLine t → (tests : Nests) → Shows o rules tests (λ o'. IsNameTest o'.wanted → ⊥) (obligations o rules t i y))
     (λ t i y. IsStoreLine t → AllByRecursion (λ o'. (IsNameTest o'.wanted → ⊥) → is_shown rules nests o' ≡ true) (obligations o rules t i y)) (λ t i y z one. z one nests) g.body (body_line p n)

@@ -114,17 +114,17 @@ module _ (a : Algorithm) (r : AroundText) where
       let c = bound (ends_of r.scope b.value) (λ ends. Some (widen reach d ends)) out b.comes in
       if_some reach (widen reach d c.value) out (widen_grows reach d c.value) c.comes
 
-  grows_if : (b : Bool) (d : ℕ) (e : Term) (reach out : List (Option Ends)) → (if b then add_index a r d e reach else Some reach) ≡ Some out → Grows reach out
+  pub grows_if : (b : Bool) (d : ℕ) (e : Term) (reach out : List (Option Ends)) → (if b then add_index a r d e reach else Some reach) ≡ Some out → Grows reach out
   grows_if true d e reach out h = grows_index d e reach out h
   grows_if false d e reach out h = if_some reach reach out (stay reach) h
 
-  grows_call : (own : Option FormulaText) (d : ℕ) (es : Terms) (reach out : List (Option Ends)) → add_call a r own d es reach ≡ Some out → Grows reach out
+  pub grows_call : (own : Option FormulaText) (d : ℕ) (es : Terms) (reach out : List (Option Ends)) → add_call a r own d es reach ≡ Some out → Grows reach out
   grows_call own d End reach out h = if_some reach reach out (stay reach) h
   grows_call own d (More e es) reach out h =
       let b = bound (add_counted a r own d e reach) (add_call a r own (d + 1) es) out h in
       after reach b.value out (grows_if (counts own d) d e reach b.value b.is) (grows_call own (d + 1) es b.value out b.comes)
 
-  grows_named : (b : Bool) (own : Option FormulaText) (es : Terms) (reach out : List (Option Ends)) → (if b then add_call a r own 0 es reach else Some reach) ≡ Some out → Grows reach out
+  pub grows_named : (b : Bool) (own : Option FormulaText) (es : Terms) (reach out : List (Option Ends)) → (if b then add_call a r own 0 es reach else Some reach) ≡ Some out → Grows reach out
   grows_named true own es reach out h = grows_call own 0 es reach out h
   grows_named false own es reach out h = if_some reach reach out (stay reach) h
 

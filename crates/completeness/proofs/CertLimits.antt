@@ -44,7 +44,7 @@ forms_small : (fs : List Form) → AllByRecursion (λ f. is_within_limits f ≡ 
 forms_small [] h = refl
 forms_small (f ∷ fs) h = (let here = h.0 in let rest = forms_small fs h.1 in λ i. here i && rest i)
 
-spans_small : (xs : List Span1) → AllByRecursion IsWithinSpan xs → spans_are_within_limits xs ≡ true
+pub spans_small : (xs : List Span1) → AllByRecursion IsWithinSpan xs → spans_are_within_limits xs ≡ true
 spans_small [] h = refl
 spans_small (x ∷ xs) h =
     let low = forms_small x.lower h.0.0 in
@@ -107,7 +107,7 @@ own_group [] (w ∷ os) m h i o at = absurd h
 own_group (p ∷ ps) (w ∷ os) m h zero o at = (p, refl)
 own_group (p ∷ ps) (w ∷ os) m h (suc i) o at = own_group ps os (m + 1) h.1 i o at
 
-at_each : {A : Type 0} (P : A → Type 0) (xs : List A) (i : ℕ) (x : A) → AllByRecursion P xs → slice_get xs i ≡ Some x → P x
+pub at_each : {A : Type 0} (P : A → Type 0) (xs : List A) (i : ℕ) (x : A) → AllByRecursion P xs → slice_get xs i ≡ Some x → P x
 at_each P [] i x h e = absurd (cc e)
 at_each P (y ∷ xs) zero x h e = subst P (some_same y x e) h.0
 at_each P (y ∷ xs) (suc i) x h e = at_each P xs i x h.1 e
@@ -115,7 +115,7 @@ at_each P (y ∷ xs) (suc i) x h e = at_each P xs i x h.1 e
 module _ (a : Algorithm) (sch : Schedule) (l : Lowered) (well : IsAlgorithm a) (legal : IsLegal a sch) (small : has_large (stored_functions a sch) ≡ false)
     (kept : region_fault a (stored_functions a sch) ≡ None) (all : are_whole (stored_functions a sch) ≡ true) (groups : HasGroups a (stored_functions a sch) l)
     (once : (n : ℕ) (u : StoredText) → slice_get (stored_functions a sch) n ≡ Some u → IsSplitOnce u) where
-  own_within : (i : ℕ) (o : Own) → slice_get l.certificate.own.items i ≡ Some o → AllByRecursion IsWithinSpan o.region
+  pub own_within : (i : ℕ) (o : Own) → slice_get l.certificate.own.items i ≡ Some o → AllByRecursion IsWithinSpan o.region
   own_within i o at =
       let x = own_group l.plan.groups.items l.certificate.own.items 0 groups.owned i o at in
       let me = made_at a sch l well legal small kept all groups i x.0 x.1 in

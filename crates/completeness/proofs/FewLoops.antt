@@ -242,8 +242,12 @@ module _ (g : StoredText) (es : List Extent) (k : SkeletonText) (laid : IsLaidBy
       let none = all_by_variable (λ c. form_named names c.inner ≡ None) cuts xs
       (all_from (λ c. form_named names c.inner ≡ None) cuts (λ c q. grid_none rs c.inner 0 (parallel_loops ls) (inners_serial ls cuts keeps c q))) in
       let known : b.value.known ≡ names = known_over rs names cs cs none (over_grid rs g.placed) b.value refl b.is in
-      let pieces : length grid ≤ 10 = (let some = few_pieces_of rs (parallel_loops ls) in let fewer_loops = filter_few is_parallel ls in let loops = few_loops in omega (arith, some,
-          fewer_loops, loops)) in
+      let pieces : length grid ≤ 10 = (let some = few_pieces_of rs (parallel_loops ls) in let fewer_loops = filter_few is_parallel ls in let loops = few_loops in omega (
+        arith,
+        some,
+        fewer_loops,
+        loops,
+      )) in
       let steps = few_steps xs bs g.placed es k e in
       let splits = few_cuts in
       let symbols = steps.few_symbols in

@@ -140,7 +140,7 @@ module _ (a : Algorithm) (sch : Schedule) (l : Lowered) (well : IsAlgorithm a) (
 
     -- ---- a definition and its nest
 
-    abbrev Typed : List (List ℕ) → (List ℕ → Option (Ty × ℕ)) → List Written → Type 0
+    abbrev pub Typed : List (List ℕ) → (List ℕ → Option (Ty × ℕ)) → List Written → Type 0
     Typed ns functions cs = AllByRecursion (λ (c : Written). IsTypedCall (is_among ns) functions c.name c.at) cs
 
     module _ (d : ℕ) (formula : FormulaText) (nest : NestText) (there : slice_get fs d ≡ Some formula) (stands : slice_get k.nests d ≡ Some nest) where
@@ -178,7 +178,7 @@ module _ (a : Algorithm) (sch : Schedule) (l : Lowered) (well : IsAlgorithm a) (
           (called_is a) ∙ wide in
           subst (λ (ns : List (List ℕ)). type_of (is_among ns) (called a) e ≡ Some I32) (ap (λ (z : StoredText). names_with z.variables z.changes d) (sym w.is)) here
 
-      typed : Typed (names d) (called a) (calls_in formula)
+      pub typed : Typed (names d) (called a) (calls_in formula)
       typed =
           let y : IsWritten a well st w.place f w.at d formula = written a well st w.place f w.at fs put_there d formula there in
           let P : List ℕ → Terms → Type 0 = IsTypedCall (is_among y.names) (callable a a.functions) in
@@ -201,7 +201,7 @@ module _ (a : Algorithm) (sch : Schedule) (l : Lowered) (well : IsAlgorithm a) (
       left = left_around u (head_scope k) nest d
 
       -- the ends of an index around the store are in their order
-      in_order : (r : AroundText) → around a u (head_scope k) nest formula d ≡ Some r → (e : Term) (span : Span1) (ends : Ends) → interval_in a r e ≡ Some span →
+      pub in_order : (r : AroundText) → around a u (head_scope k) nest formula d ≡ Some r → (e : Term) (span : Span1) (ends : Ends) → interval_in a r e ≡ Some span →
           IsSome (type_of (is_among (names d)) (called a) e) → ends_of r.scope span ≡ Some ends → ends.low ≤ℤ ends.high
       in_order r stands_r =
           let z = bound (coordinates_behind a left formula [] 0 nest.at) (λ cs. Some (record left { coordinates = cs })) r stands_r in

@@ -1,19 +1,23 @@
--- Where the region of a function is what its own updates widen some reach to, each left index that is no variable has ends, between those of the region at its place.
-use Rattle.std.proofs.Common.{◌≡◌, ℕ, zero, suc, ◌+◌, ◌≤◌, Bool, List, [], ◌∷◌, length, Option, Some, None, sym, ap, subst, ◌∙◌, arith}
-use Rattle.std.specs.Prelude.{slice_get}
-use Rattle.tree.specs.Term.{Term}
+-- Where the region of a function is what its own updates widen some reach to, each left index that is no variable has ends, between those of the region at its place, and so has each index of
+-- a call of the function itself at such a place.
+use Rattle.std.proofs.Common.{◌≡◌, ℕ, zero, suc, ◌+◌, ◌<◌, ◌≤◌, Bool, true, List, [], ◌∷◌, length, Option, Some, None, sym, ap, subst, ◌∙◌, arith}
+use Rattle.std.specs.Prelude.{if◌then◌else◌, slice_get}
+use Rattle.tree.specs.Term.{Term, Terms, End, More}
 use Rattle.lin.specs.declared.scope.Binding.{Binding}
 use Rattle.meaning.specs.Algorithm.{Algorithm}
+use Rattle.meaning.specs.Names.{same_name}
+use Rattle.algo.specs.Scoping.Standing.{Written}
 use Rattle.sched.specs.declared.numbers.Extent.{Extent}
 use Rattle.sched.specs.Skeleton.{NestText}
 use Rattle.sched.specs.Standing.{◌>>=◌}
 use Rattle.lower.specs.Stored.{FormulaText, StoredText, calls_in}
 use Rattle.lower.specs.Around.{AroundText, around}
-use Rattle.lower.specs.Regions.{are_within, add_calls, add_place, add_left, add_own, add_all_own, region_of}
+use Rattle.lower.specs.Regions.{are_within, counts, add_index, add_counted, add_call, add_calls, add_place, add_left, add_own, add_all_own, region_of}
 use Rattle.lower.proofs.Laying.{bound, same}
 use Rattle.lower.proofs.Reached.{Grows, after, if_some, region_length}
 use Rattle.completeness.proofs.Standing.{Taken}
-use Rattle.completeness.proofs.CallEnds.{stay, HasEnds, grows_index, grows_calls, index_ends, more_ends, region_in, IsIndexEnded}
+use Rattle.completeness.specs.Placed.{index_at}
+use Rattle.completeness.proofs.CallEnds.{stay, HasEnds, grows_index, grows_if, grows_call, grows_named, grows_calls, index_ends, more_ends, region_in, IsIndexEnded}
 
 abbrev Ends : Type 0
 Ends = Taken _ _ are_within
@@ -45,6 +49,43 @@ module _ (a : Algorithm) (r : AroundText) where
       let next : (d + 1) + j ≡ d + suc j = omega arith in
       subst (HasEnds a r e out) next (left_ends (d + 1) os b.value out b.comes (omega (arith, few, many)) j e at)
 
+  -- an index of a call of the function itself, at a place where its left index is no variable
+  module _ (f : FormulaText) where
+    own_call_ends : (d : ℕ) (es : Terms) (reach out : List (Option Ends)) → add_call a r (Some f) d es reach ≡ Some out → (j : ℕ) (t : Term) → index_at es j ≡ Some t → d + j < length reach →
+        counts (Some f) (d + j) ≡ true → HasEnds a r t out (d + j)
+    own_call_ends d End reach out h j t at less counted = absurd (cc at)
+    own_call_ends d (More e es) reach out h zero t at less counted =
+        let b = bound (add_counted a r (Some f) d e reach) (add_call a r (Some f) (d + 1) es) out h in
+        let none : d + 0 ≡ d = omega arith in
+        let counted_here : counts (Some f) d ≡ true = ap (counts (Some f)) (sym none) ∙ counted in
+        let is : e ≡ t = same e t at in
+        let added : add_index a r d t reach ≡ Some b.value =
+        ap (λ (u : Term). add_index a r d u reach) (sym is) ∙ sym (ap (λ (v : Bool). if v then add_index a r d e reach else Some reach) counted_here) ∙ b.is in
+        let here = index_ends a r d t reach b.value (omega (arith, less)) added in
+        subst (HasEnds a r t out) (sym none) (more_ends a r t d b.value out (grows_call a r (Some f) (d + 1) es b.value out b.comes) here)
+    own_call_ends d (More e es) reach out h (suc j) t at less counted =
+        let b = bound (add_counted a r (Some f) d e reach) (add_call a r (Some f) (d + 1) es) out h in
+        let many = (grows_if a r (counts (Some f) d) d e reach b.value b.is).as_many in
+        let next : (d + 1) + j ≡ d + suc j = omega arith in
+        subst (HasEnds a r t out) next (own_call_ends (d + 1) es b.value out b.comes j t at (omega (arith, less, many)) (ap (counts (Some f)) next ∙ counted))
+
+    own_calls_ends : (x : List ℕ) (cs : List Written) (reach out : List (Option Ends)) → add_calls a r (Some f) x cs reach ≡ Some out → (place : ℕ) (c : Written) → slice_get cs place ≡ Some c →
+        same_name c.name x ≡ true → (j : ℕ) (t : Term) → index_at c.at j ≡ Some t → j < length reach → counts (Some f) j ≡ true → HasEnds a r t out j
+    own_calls_ends x [] reach out h place c there named j t at less counted = absurd (cc there)
+    own_calls_ends x (y ∷ cs) reach out h zero c there named j t at less counted =
+        let is : y ≡ c = same y c there in
+        let b = bound (if same_name y.name x then add_call a r (Some f) 0 y.at reach else Some reach) (add_calls a r (Some f) x cs) out h in
+        let yes : same_name y.name x ≡ true = ap (λ (q : Written). same_name q.name x) is ∙ named in
+        let added : add_call a r (Some f) 0 c.at reach ≡ Some b.value =
+        ap (λ (q : Written). add_call a r (Some f) 0 q.at reach) (sym is) ∙ sym (ap (λ (v : Bool). if v then add_call a r (Some f) 0 y.at reach else Some reach) yes) ∙ b.is in
+        let none : 0 + j ≡ j = omega arith in
+        let here = own_call_ends 0 c.at reach b.value added j t at (omega (arith, less)) (ap (counts (Some f)) none ∙ counted) in
+        more_ends a r t j b.value out (grows_calls a r (Some f) x cs b.value out b.comes) (subst (HasEnds a r t b.value) none here)
+    own_calls_ends x (y ∷ cs) reach out h (suc place) c there named j t at less counted =
+        let b = bound (if same_name y.name x then add_call a r (Some f) 0 y.at reach else Some reach) (add_calls a r (Some f) x cs) out h in
+        let many = (grows_named a r (same_name y.name x) (Some f) y.at reach b.value b.is).as_many in
+        own_calls_ends x cs b.value out b.comes place c there named j t at (omega (arith, less, many)) counted
+
 -- ---- definitions
 
 module _ (a : Algorithm) (g : StoredText) (outer : List Binding) where
@@ -61,43 +102,49 @@ module _ (a : Algorithm) (g : StoredText) (outer : List Binding) where
       let b = bound (add_own a g outer d f n reach) (add_all_own a g outer (d + 1) fs ns) out h in
       after reach b.value out (grows_own d f n reach b.value b.is) (grows_all_own (d + 1) fs ns b.value out b.comes)
 
-  module _ (f : FormulaText) (n : NestText) (r : AroundText) (j : ℕ) (e : Term) (at : slice_get f.at j ≡ Some (Some e)) where
-    own_ends : (d : ℕ) (reach out : List (Option Ends)) → around a g outer n f d ≡ Some r → add_own a g outer d f n reach ≡ Some out → length f.at ≤ length reach → HasEnds a r e out j
-    own_ends d reach out stands h few =
+  module _ (f : FormulaText) (n : NestText) (r : AroundText) (j : ℕ) (t : Term) where
+    -- what the definition adds gives this index ends
+    abbrev Adds : Type 0
+    Adds =
+        (reach mid out : List (Option Ends)) → add_left a r 0 f.at reach ≡ Some mid → add_calls a r (Some f) g.subject.name (calls_in f) mid ≡ Some out → j < length reach
+        → length f.at ≤ length reach → HasEnds a r t out j
+
+    own_ends : Adds → (d : ℕ) (reach out : List (Option Ends)) → around a g outer n f d ≡ Some r → add_own a g outer d f n reach ≡ Some out → j < length reach → length f.at ≤ length reach →
+        HasEnds a r t out j
+    own_ends adds d reach out stands h less few =
         let added : (add_left a r 0 f.at reach >>= add_calls a r (Some f) g.subject.name (calls_in f)) ≡ Some out =
         sym (ap (λ (o : Option AroundText). o >>= λ r. add_left a r 0 f.at reach >>= add_calls a r (Some f) g.subject.name (calls_in f)) stands) ∙ h in
         let c = bound (add_left a r 0 f.at reach) (add_calls a r (Some f) g.subject.name (calls_in f)) out added in
-        let none : 0 + j ≡ j = omega arith in
-        let here = left_ends a r 0 f.at reach c.value c.is (omega (arith, few)) j e at in
-        more_ends a r e j c.value out (grows_calls a r (Some f) g.subject.name (calls_in f) c.value out c.comes) (subst (HasEnds a r e c.value) none here)
+        adds reach c.value out c.is c.comes less few
 
-    all_own_ends : (d m : ℕ) (fs : List FormulaText) (ns : List NestText) (reach out : List (Option Ends)) → add_all_own a g outer d fs ns reach ≡ Some out → slice_get fs m ≡ Some f →
-        slice_get ns m ≡ Some n → around a g outer n f (d + m) ≡ Some r → length f.at ≤ length reach → HasEnds a r e out j
-    all_own_ends d m [] ns reach out h there nested stands few = absurd (cc there)
-    all_own_ends d m (y ∷ fs) [] reach out h there nested stands few = absurd (cc h)
-    all_own_ends d zero (y ∷ fs) (z ∷ ns) reach out h there nested stands few =
+    all_own_ends : Adds → (d m : ℕ) (fs : List FormulaText) (ns : List NestText) (reach out : List (Option Ends)) → add_all_own a g outer d fs ns reach ≡ Some out → slice_get fs m ≡ Some f →
+        slice_get ns m ≡ Some n → around a g outer n f (d + m) ≡ Some r → j < length reach → length f.at ≤ length reach → HasEnds a r t out j
+    all_own_ends adds d m [] ns reach out h there nested stands less few = absurd (cc there)
+    all_own_ends adds d m (y ∷ fs) [] reach out h there nested stands less few = absurd (cc h)
+    all_own_ends adds d zero (y ∷ fs) (z ∷ ns) reach out h there nested stands less few =
         let b = bound (add_own a g outer d y z reach) (add_all_own a g outer (d + 1) fs ns) out h in
         let of_it : add_own a g outer d f n reach ≡ Some b.value =
         subst (λ (q : FormulaText). add_own a g outer d q n reach ≡ Some b.value) (same y f there) (subst (λ (q : NestText). add_own a g outer d y q reach ≡ Some b.value) (same z n nested) b.is) in
         let none : d + 0 ≡ d = omega arith in
         let known : around a g outer n f d ≡ Some r = subst (λ (i : ℕ). around a g outer n f i ≡ Some r) none stands in
-        more_ends a r e j b.value out (grows_all_own (d + 1) fs ns b.value out b.comes) (own_ends d reach b.value known of_it few)
-    all_own_ends d (suc m) (y ∷ fs) (z ∷ ns) reach out h there nested stands few =
+        more_ends a r t j b.value out (grows_all_own (d + 1) fs ns b.value out b.comes) (own_ends adds d reach b.value known of_it less few)
+    all_own_ends adds d (suc m) (y ∷ fs) (z ∷ ns) reach out h there nested stands less few =
         let b = bound (add_own a g outer d y z reach) (add_all_own a g outer (d + 1) fs ns) out h in
         let many = (grows_own d y z reach b.value b.is).as_many in
         let next : (d + 1) + m ≡ d + suc m = omega arith in
         let known : around a g outer n f ((d + 1) + m) ≡ Some r = subst (λ (i : ℕ). around a g outer n f i ≡ Some r) (sym next) stands in
-        all_own_ends (d + 1) m fs ns b.value out b.comes there nested known (omega (arith, few, many))
+        all_own_ends adds (d + 1) m fs ns b.value out b.comes there nested known (omega (arith, less, many)) (omega (arith, few, many))
 
     -- between those of the region
-    pub left_ended : (root : Bool) (m : ℕ) (fs : List FormulaText) (ns : List NestText) (reach wide : List (Option Ends)) (region : List Extent) → add_all_own a g outer 0 fs ns reach ≡ Some wide →
-        region_of root wide ≡ Some region → slice_get fs m ≡ Some f → slice_get ns m ≡ Some n → around a g outer n f m ≡ Some r → length f.at ≤ length region → IsIndexEnded a r e region j
-    left_ended root m fs ns reach wide region h is there nested stands few =
+    ended : Adds → (root : Bool) (m : ℕ) (fs : List FormulaText) (ns : List NestText) (reach wide : List (Option Ends)) (region : List Extent) → add_all_own a g outer 0 fs ns reach ≡ Some wide →
+        region_of root wide ≡ Some region → slice_get fs m ≡ Some f → slice_get ns m ≡ Some n → around a g outer n f m ≡ Some r → j < length region → length f.at ≤ length region →
+        IsIndexEnded a r t region j
+    ended adds root m fs ns reach wide region h is there nested stands less few =
         let many = (grows_all_own 0 fs ns reach wide h).as_many in
         let long = region_length root wide region is in
         let none : 0 + m ≡ m = omega arith in
         let known : around a g outer n f (0 + m) ≡ Some r = subst (λ (i : ℕ). around a g outer n f i ≡ Some r) (sym none) stands in
-        let ends = all_own_ends 0 m fs ns reach wide h there nested known (omega (arith, few, many, long)) in
+        let ends = all_own_ends adds 0 m fs ns reach wide h there nested known (omega (arith, less, many, long)) (omega (arith, few, many, long)) in
         record {
           span = ends.span;
           bounds = ends.bounds;
@@ -105,3 +152,19 @@ module _ (a : Algorithm) (g : StoredText) (outer : List Binding) where
           freed = ends.freed;
           inside = λ z low high x at_x. region_in root wide region is j z x (ends.reached z low high) at_x;
         }
+
+    pub left_ended : slice_get f.at j ≡ Some (Some t) → (root : Bool) (m : ℕ) (fs : List FormulaText) (ns : List NestText) (reach wide : List (Option Ends)) (region : List Extent) →
+        add_all_own a g outer 0 fs ns reach ≡ Some wide → region_of root wide ≡ Some region → slice_get fs m ≡ Some f → slice_get ns m ≡ Some n → around a g outer n f m ≡ Some r →
+        j < length region → length f.at ≤ length region → IsIndexEnded a r t region j
+    left_ended at =
+        ended (λ reach mid out added more less few. let none : 0 + j ≡ j = omega arith in
+        more_ends a r t j mid out (grows_calls a r (Some f) g.subject.name (calls_in f) mid out more)
+        (subst (HasEnds a r t mid) none (left_ends a r 0 f.at reach mid added (omega (arith, few)) j t at)))
+
+    pub own_ended : (place : ℕ) (c : Written) → slice_get (calls_in f) place ≡ Some c → same_name c.name g.subject.name ≡ true → index_at c.at j ≡ Some t → counts (Some f) j ≡ true →
+        (root : Bool) (m : ℕ) (fs : List FormulaText) (ns : List NestText) (reach wide : List (Option Ends)) (region : List Extent) →
+        add_all_own a g outer 0 fs ns reach ≡ Some wide → region_of root wide ≡ Some region → slice_get fs m ≡ Some f → slice_get ns m ≡ Some n → around a g outer n f m ≡ Some r →
+        j < length region → length f.at ≤ length region → IsIndexEnded a r t region j
+    own_ended place c there named at counted =
+        ended (λ reach mid out added more less few. let many = (grows_left a r 0 f.at reach mid added).as_many in
+        own_calls_ends a r f g.subject.name (calls_in f) mid out more place c there named j t at (omega (arith, less, many)) counted)

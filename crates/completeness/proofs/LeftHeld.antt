@@ -1,7 +1,7 @@
 -- A left index that is no variable is shown to lie in its dimension, and to be a number of 32 bits, where the region is what the function's updates widen some reach to and all symbols around
 -- the store are of loops over some numbers near 0.
 use Rattle.std.proofs.Common.{◌≡◌, ℕ, zero, suc, ◌+◌, ◌<◌, ◌≤◌, ◌^◌, Bool, true, false, List, [], ◌∷◌, ◌++◌, length, map, drop, Option, Some, None, IsSome, refl, sym, ap, ◌∙◌, subst, append_assoc}
-use Rattle.std.proofs.Common.{append-nil, length-append, arith}
+use Rattle.std.proofs.Common.{append-nil, length-append, arith, inl, inr}
 use Rattle.std.specs.Prelude.{pos, negsuc, ◌+ℤ◌, ◌-ℤ◌, ◌≤ℤ◌, ◌==◌, if◌then◌else◌, slice_get}
 use Rattle.std.specs.List.{AllByRecursion, list_any}
 use Rattle.std.specs.Int.RustNames.{unsigned_abs}
@@ -9,7 +9,7 @@ use Rattle.std.proofs.lemmas.Int.{ints}
 use Rattle.std.proofs.lemmas.Option.{slice_get_within}
 use Rattle.numeric.specs.declared.ty.Ty.{Ty}
 use Rattle.numeric.specs.declared.ty.Ty.TheVariants.{I32}
-use Rattle.tree.specs.Term.{Term}
+use Rattle.tree.specs.Term.{Term, Terms, End, More}
 use Rattle.tree.specs.Typing.{type_of}
 use Rattle.lin.specs.Forms.{Form, number}
 use Rattle.lin.specs.Regions.{span_inside}
@@ -21,7 +21,7 @@ use Rattle.bounds.specs.Interval.{span_named}
 use Rattle.bounds.specs.Projection.Elimination.{is_inner}
 use Rattle.bounds.specs.Projection.Projection.{negated}
 use Rattle.meaning.specs.Algorithm.{Algorithm}
-use Rattle.meaning.specs.Names.{is_among}
+use Rattle.meaning.specs.Names.{same_name, is_among}
 use Rattle.meaning.specs.Conditions.{IsAlgorithm}
 use Rattle.headline.proofs.Members.{got}
 use Rattle.headline.proofs.Lists.{at_left}
@@ -34,30 +34,36 @@ use Rattle.sched.specs.Standing.{form_named}
 use Rattle.sched.proofs.Arriving.{skeletal}
 use Rattle.lower.specs.declared.lowering.Lowered.{Lowered}
 use Rattle.lower.specs.Called.{called}
-use Rattle.lower.specs.Stored.{FormulaText, StoredText, left_at, formulas_put, stored_functions, has_large}
+use Rattle.lower.specs.Stored.{FormulaText, StoredText, left_at, calls_in, formulas_put, stored_functions, has_large}
 use Rattle.lower.specs.Around.{AroundText, exactly, interval_in, form_span, coordinate_span, range_names, ranges_of, names_with, head_scope, left_around, around, coordinates_behind}
 use Rattle.lower.specs.Faults.{are_whole, region_fault}
-use Rattle.lower.specs.Regions.{LaidText, ends_of, symbols_from, missing_from, bodies_from, skeleton_of, laid_functions}
+use Rattle.lower.specs.Regions.{LaidText, counts, ends_of, symbols_from, missing_from, bodies_from, skeleton_of, laid_functions}
 use Rattle.lower.specs.Bounded.{whole}
 use Rattle.lower.specs.Groups.{HasGroups}
 use Rattle.lower.specs.Owning.{IsExtent}
 use Rattle.lower.proofs.Extents.{region_is}
 use Rattle.lower.proofs.Laying.{bound, same}
-use Rattle.completeness.specs.Placed.{IsSettled, AreLeftsHeld}
+use Rattle.completeness.specs.Placed.{IsSettled, ArePlaced, GoesOn, AreLeftsHeld, index_at, AreOwnHeld}
+use Rattle.completeness.proofs.HeldWhole.{HasIndex}
+use Rattle.completeness.proofs.LoadedTerms.{IsTypedCall}
+use Rattle.completeness.proofs.PureNests.{all_slices}
+use Rattle.algo.specs.Scoping.Standing.{Written}
+use Rattle.soundness.proofs.Refines.{name_refl}
 use Rattle.completeness.proofs.Defined.{missing_at, body_missing}
 use Rattle.completeness.proofs.Standing.{names_own}
 use Rattle.completeness.proofs.Laid.{IsStoredOf}
 use Rattle.completeness.proofs.Owned.{some_same}
 use Rattle.completeness.proofs.Only.{SpanOnly, Only, interval_only, only_combined}
-use Rattle.completeness.proofs.Sited.{Below, coordinates_below}
+use Rattle.completeness.proofs.Sited.{Below, coordinates_below, around_below}
 use Rattle.completeness.proofs.RegionBounds.{IsEnded, region_ends}
 use Rattle.completeness.proofs.StoreBounds.{called_is}
-use Rattle.completeness.proofs.StoreLists.{last_alone, span_behind}
+use Rattle.completeness.proofs.StoreLists.{last_alone, span_behind, typed_nth}
 use Rattle.completeness.proofs.RangedLefts.{interval_agrees, left_typed, lefts_few}
+use Rattle.completeness.proofs.Boxes.{IsLightSpan}
 use Rattle.completeness.proofs.NearBoxes.{IsBoxTurn}
 use Rattle.completeness.proofs.FreedEnds.{AreOver, inside_all, whole_inside}
 use Rattle.completeness.proofs.CallEnds.{IsIndexEnded}
-use Rattle.completeness.proofs.LeftEnds.{left_ended}
+use Rattle.completeness.proofs.LeftEnds.{left_ended, own_ended}
 use Rattle.completeness.proofs.HeldNear as near
 use Rattle.completeness.proofs.HeldNear.{IsFormed, IsIndexed}
 
@@ -145,6 +151,12 @@ split_spans (suc n) (o ∷ os) few =
     let rest = split_spans n os (omega (arith, few)) in
     let long = rest.2 in
     (form_span o ∷ rest.0, ap (λ (ss : List Span1). form_span o ∷ ss) rest.1, omega (arith, long))
+
+-- an index of a call is one of its indices
+has_index : (es : Terms) (j : ℕ) (t : Term) → index_at es j ≡ Some t → HasIndex t es
+has_index End j t e = absurd (cc e)
+has_index (More u es) zero t e = inl (sym (same u t e))
+has_index (More u es) (suc j) t e = inr (has_index es j t e)
 
 -- ---- the law
 
@@ -267,24 +279,24 @@ module _ (a : Algorithm) (sch : Schedule) (l : Lowered) (well : IsAlgorithm a) (
       negation_over g h e q = only_combined (λ i. is_inner (symbols_from 0 (length scope)) i ≡ true) (number (pos 0)) (negsuc 0) g tt q h e
 
       module _ (settled : IsSettled a u fs m) (x : Extent) (at_x : slice_get m.region j ≡ Some x) where
-        ended : IsIndexEnded a r e m.region j
-        ended =
+        ended_left : IsIndexEnded a r e m.region j
+        ended_left =
             let region = region_is a gs n u m at laid in
             let long = region.long in
             let few_here = few in
+            let less = slice_get_within m.region j x at_x in
             let variables = ap length (near.variables_are a sch l well legal small kept all groups n u at fs defined m laid over formed boxed) in
-            left_ended a u (head_scope k) f w r j e at_j u.subject.is_root d fs k.nests settled.0 settled.1 m.region settled.2 settled.3 at_f at_w stands (omega (arith, few_here, long, variables))
+            left_ended a u (head_scope k) f w r j e at_j u.subject.is_root d fs k.nests settled.0 settled.1 m.region settled.2 settled.3 at_f at_w stands less
+            (omega (arith, few_here, long, variables))
 
-        held : (span_inside scope left_span.0 (whole x) ≡ true) × (span_inside scope left_span.0 (range_of I32) ≡ true)
-        held =
-            let s = left_span.0 in
-            let ends = ended.ends in
-            let span_is : ended.span ≡ s = same ended.span s (sym ended.bounds ∙ agree ∙ left_span.2) in
-            let freed : ends_of scope s ≡ Some ends = ap (ends_of scope) (sym span_is) ∙ ap (λ (t : AroundText). ends_of t.scope ended.span) spans.2 ∙ ended.freed in
-            let le : ends.low ≤ℤ ends.high =
-            near.left_in_order a sch l well legal small kept all groups n u at fs defined m laid over formed boxed d f w at_f at_w e s ends left_span.2 (subst IsSome (sym wide) refl) freed in
-            let low = ended.inside ends.low (omega (arith, ints)) le x at_x in
-            let high = ended.inside ends.high le (omega (arith, ints)) x at_x in
+        -- an index that ends so, and whose ends are in their order, lies in the dimension, and in one that goes on behind it
+        lies : (t : Term) (s : Span1) (end : IsIndexEnded a r t m.region j) → end.span ≡ s → end.ends.low ≤ℤ end.ends.high → SpanOnly (Below (length scope)) s → IsLightSpan scope s → (y : Extent) →
+            GoesOn x y → (span_inside scope s (whole y) ≡ true) × (span_inside scope s (range_of I32) ≡ true)
+        lies t s end span_is le only light y goes =
+            let ends = end.ends in
+            let freed : ends_of scope s ≡ Some ends = ap (ends_of scope) (sym span_is) ∙ ap (λ (t : AroundText). ends_of t.scope end.span) spans.2 ∙ end.freed in
+            let low = end.inside ends.low (omega (arith, ints)) le x at_x in
+            let high = end.inside ends.high le (omega (arith, ints)) x at_x in
             let extent : IsExtent x = got IsExtent m.region j x (region_is a gs n u m at laid).extents at_x in
             let last : IsEnded x = got IsEnded m.region j x (region_ends a gs n u m at laid) at_x in
             let from = extent.from in
@@ -293,25 +305,75 @@ module _ (a : Algorithm) (sch : Schedule) (l : Lowered) (well : IsAlgorithm a) (
             let low_to = low.1 in
             let high_from = high.0 in
             let high_to = high.1 in
-            let lowers = forms_over s.lower over_all.0 in
-            let uppers = forms_over s.upper over_all.1 in
-            let light = index.lefts f at_f j e left_j s left_span.2 in
+            let begins = goes.low in
+            let more = goes.count in
+            let ends_there = goes.last in
+            let lowers = forms_over s.lower only.0 in
+            let uppers = forms_over s.upper only.1 in
             let low_near : unsigned_abs ends.low ≤ 2 ^ 31 = omega (arith, ints, from, last, some, low_from, low_to) in
             let high_near : unsigned_abs ends.high ≤ 2 ^ 31 = omega (arith, ints, from, last, some, high_from, high_to) in
             let all_numbers : Extent = record { low = negsuc 2147483647; count = 4294967296 } in
             let last_is : (negsuc 2147483647 +ℤ pos 4294967296 -ℤ pos 1) ≡ pos 2147483647 = omega (arith, ints) in (
-              whole_inside scope index.boxes s ends x freed lowers uppers negation_over light low.0 high.1 (omega (arith, ints, from, last, some)) (omega (arith, ints, from, last, some)) low_near high_near,
+              whole_inside scope index.boxes s ends y freed lowers uppers negation_over light (omega (arith, ints, begins, low_from)) (omega (arith, ints, begins, more, high_to))
+                  (omega (arith, ints, begins, from, last, some)) (omega (arith, ints, begins, from, more, some, ends_there)) low_near high_near,
               ap (λ (z : _). span_inside scope s (numbers (negsuc 2147483647) z)) (sym last_is)
-                  ∙ whole_inside scope index.boxes s ends all_numbers freed lowers uppers negation_over light (omega (arith, ints, low_near)) (omega (arith, ints, high_near, last_is)) (omega (arith, ints))
+                  ∙ whole_inside scope index.boxes s ends all_numbers freed lowers uppers negation_over light (omega (arith, ints, low_near)) (omega (arith, ints, high_near, last_is))
+                      (omega (arith, ints))
                   (omega (arith, ints, last_is)) low_near high_near,
             )
 
+        held : (y : Extent) → GoesOn x y → (span_inside scope left_span.0 (whole y) ≡ true) × (span_inside scope left_span.0 (range_of I32) ≡ true)
+        held y goes =
+            let s = left_span.0 in
+            let end = ended_left in
+            let span_is : end.span ≡ s = same end.span s (sym end.bounds ∙ agree ∙ left_span.2) in
+            let freed : ends_of scope s ≡ Some end.ends = ap (ends_of scope) (sym span_is) ∙ ap (λ (t : AroundText). ends_of t.scope end.span) spans.2 ∙ end.freed in
+            let le : end.ends.low ≤ℤ end.ends.high =
+            near.left_in_order a sch l well legal small kept all groups n u at fs defined m laid over formed boxed d f w at_f at_w e s end.ends left_span.2 (subst IsSome (sym wide) refl) freed in
+            lies e s end span_is le over_all (index.lefts f at_f j e left_j s left_span.2) y goes
+
+        -- an index of a call of the function itself there
+        own_held : (i : ℕ) (c : Written) → slice_get (calls_in f) i ≡ Some c → c.name ≡ u.subject.name → (t : Term) → index_at c.at j ≡ Some t → (s : Span1) → interval_in a r t ≡ Some s →
+            (y : Extent) → GoesOn x y → span_inside scope s (whole y) ≡ true
+        own_held i c at_c name t at_t s found y goes =
+            let region = region_is a gs n u m at laid in
+            let long = region.long in
+            let few_here = few in
+            let less = slice_get_within m.region j x at_x in
+            let variables = ap length (near.variables_are a sch l well legal small kept all groups n u at fs defined m laid over formed boxed) in
+            let counted : counts (Some f) j ≡ true = ap (λ (o : Option Term). elim o [ Some e ↦ true | None ↦ false ]) left_j in
+            let end = own_ended a u (head_scope k) f w r j t i c at_c (ap (λ (z : List ℕ). same_name z u.subject.name) name ∙ name_refl u.subject.name) at_t counted u.subject.is_root d fs k.nests
+            settled.0 settled.1 m.region settled.2 settled.3 at_f at_w stands less (omega (arith, few_here, long, variables)) in
+            let span_is : end.span ≡ s = same end.span s (sym end.bounds ∙ found) in
+            let names = names_with u.variables u.changes d in
+            let typed_call = got (λ (c : Written). IsTypedCall (is_among names) (called a) c.name c.at) (calls_in f) i c
+            (near.typed a sch l well legal small kept all groups n u at fs defined m laid over formed boxed d f w at_f at_w) at_c in
+            let typed : type_of (is_among names) (called a) t ≡ Some I32 = typed_nth (is_among names) (called a) c.at j t typed_call.0 at_t in
+            let le : end.ends.low ≤ℤ end.ends.high =
+            near.in_order a sch l well legal small kept all groups n u at fs defined m laid over formed boxed d f w at_f at_w r stands t end.span end.ends end.bounds (subst IsSome (sym typed) refl)
+            end.freed in
+            let here : interval_in a (record left { coordinates = spans.0 }) t ≡ Some s = ap (λ (z : AroundText). interval_in a z t) spans.2 ∙ found in
+            let only : SpanOnly (Below (length scope)) s =
+            interval_only (Below (length scope)) scope (called a) left.variables spans.0
+            (around_below a u k (skeletal xs bs u.placed m.region k over) (names_own xs bs u.placed m.region k over) d w at_w f spans.0 spans.1) t s here in
+            let light : IsLightSpan scope s = subst (λ (z : AroundText). IsLightSpan z.scope s) (sym spans.2) (index.light f at_f r stands i c at_c t (has_index c.at j t at_t) s found) in
+            (lies t s end span_is le only light y goes).0
+
     -- so it is of all of them
-    pub lefts_held : ((d j : ℕ) (f : FormulaText) (e : Term) → slice_get fs d ≡ Some f → slice_get f.at j ≡ Some (Some e) → IsSettled a u fs m) → AreLeftsHeld a u fs m.region k
-    lefts_held settled d f w r at_f at_w stands j e x s at_j at_x at_s =
-        let y = left_span d f w r at_f at_w stands j e at_j in
-        let h = held d f w r at_f at_w stands j e at_j (settled d j f e at_f at_j) x at_x in
-        let here : slice_get r.coordinates j ≡ Some y.0 = ap (λ (t : AroundText). slice_get t.coordinates j) (sym (spans d f w r at_f at_w stands j e at_j).2) ∙ y.1 in
-        let span_is : y.0 ≡ s = some_same y.0 s (sym here ∙ at_s) in
+    pub lefts_held : ArePlaced a u fs m → AreLeftsHeld a u fs m.region k
+    lefts_held settled d f w r at_f at_w stands j e x y s at_j at_x goes at_s =
+        let z = left_span d f w r at_f at_w stands j e at_j in
+        let h = held d f w r at_f at_w stands j e at_j (settled d j f e at_f at_j) x at_x y goes in
+        let here : slice_get r.coordinates j ≡ Some z.0 = ap (λ (t : AroundText). slice_get t.coordinates j) (sym (spans d f w r at_f at_w stands j e at_j).2) ∙ z.1 in
+        let span_is : z.0 ≡ s = some_same z.0 s (sym here ∙ at_s) in
         let scope_is = ap (λ (t : AroundText). t.scope) (spans d f w r at_f at_w stands j e at_j).2 in
-        ((λ i. span_inside (sym scope_is i) (sym span_is i) (whole x)) ∙ h.0, (λ i. span_inside (sym scope_is i) (sym span_is i) (range_of I32)) ∙ h.1)
+        ((λ i. span_inside (sym scope_is i) (sym span_is i) (whole y)) ∙ h.0, (λ i. span_inside (sym scope_is i) (sym span_is i) (range_of I32)) ∙ h.1)
+
+    pub owns_held : ArePlaced a u fs m → AreOwnHeld a u fs m.region k
+    owns_held settled d f w r at_f at_w stands =
+        all_slices (λ (c : Written). c.name ≡ u.subject.name → (j : ℕ) (e t : Term) (x y : Extent) (s : Span1) → slice_get f.at j ≡ Some (Some e) → slice_get m.region j ≡ Some x → GoesOn x y →
+        index_at c.at j ≡ Some t → interval_in a r t ≡ Some s → span_inside r.scope s (whole y) ≡ true) (calls_in f)
+        (λ i c at_c name j e t x y s at_j at_x goes at_t found.
+        let h = own_held d f w r at_f at_w stands j e at_j (settled d j f e at_f at_j) x at_x i c at_c name t at_t s found y goes in
+        let scope_is = ap (λ (z : AroundText). z.scope) (spans d f w r at_f at_w stands j e at_j).2 in
+        ap (λ (sc : List Binding). span_inside sc s (whole y)) (sym scope_is) ∙ h)

@@ -170,4 +170,9 @@ pub mod NeedTexts
 pub mod NumberClaims
 pub mod NumberCertificates
 pub mod ReadFiles
+pub mod TextLengths
+pub mod LineLengths
+pub mod SlimLines
+pub mod ShortFiles
+pub mod SmallStores
 pub mod MadeFiles

@@ -12,6 +12,7 @@ use Rattle.completeness.proofs.SaidCertificates.{certificates_fit_by_numbers}
 use Rattle.completeness.proofs.SaidLines.{plans_fit_by_numbers}
 use Rattle.completeness.proofs.SaidPlans.{plans_are_said}
 use Rattle.completeness.proofs.Shapes.{shaped}
+use Rattle.completeness.proofs.ShortFiles.{short}
 
 pub files_are_of_plans : FilesAreOfPlans
 files_are_of_plans a s l well legal small regions groups splits named written =
@@ -25,4 +26,4 @@ files_are_of_plans a s l well legal small regions groups splits named written =
     let plan : fits_plan p ≡ true = plans_fit_by_numbers p c shape said (plan_numbered a s l well legal small kept all groups planned splits.once) in
     let certificate : fits_certificate c ≡ true =
     certificates_fit_by_numbers a s l well legal small regions groups all named (certificate_numbered a s l well legal small kept all groups splits.once) in
-    file_of_plan p c plan certificate (lines_few a s l well legal small kept all groups splits.once)
+    file_of_plan p c plan certificate (lines_few a s l well legal small kept all groups splits.once) (short a s l well legal small regions groups splits named written plan certificate)

@@ -104,7 +104,7 @@ use Rattle.completeness.proofs.SelfBounds.{form_self, number_below}
 use Rattle.completeness.proofs.ClaimedNests.{named_over}
 use Rattle.completeness.proofs.UnderWay.{HasLines, body_has_lines, NamedIn, AllNamed, each_named}
 use Rattle.completeness.proofs.StoreLists.{taken_got, all_by, seated_by, within_by, prefix_same, last_alone, span_behind, split_spans, targets_behind}
-use Rattle.completeness.proofs.StoreLists.{nth, interval_nth, variable_nth, each_nth, typed_nth, region_nth, spans_agree, input_agrees}
+use Rattle.completeness.proofs.StoreLists.{interval_nth, variable_nth, each_nth, typed_nth, region_nth, spans_agree, input_agrees}
 use Rattle.numeric.specs.declared.ty.Ty.TheVariants.{I32}
 use Rattle.numeric.specs.Wrap.{least, greatest}
 use Rattle.std.proofs.lemmas.Int.{ints}
@@ -115,7 +115,7 @@ use Rattle.plan.specs.declared.stmt.Places.TheVariants.{From}
 use Rattle.meaning.proofs.Cases.{name_differs}
 use Rattle.sched.specs.Skeleton.{BodyText, is_missing, variables_at}
 use Rattle.lower.specs.Called.{called as called_there}
-use Rattle.completeness.specs.Placed.{AreLeftsHeld}
+use Rattle.completeness.specs.Placed.{GoesOn, AreLeftsHeld, index_at, AreOwnHeld}
 use Rattle.completeness.proofs.Defined.{missing_at}
 use Rattle.completeness.proofs.RangedLefts.{left_got, interval_agrees, left_of_update, left_typed, lefts_few}
 
@@ -324,12 +324,12 @@ module _ (a : Algorithm) (sch : Schedule) (l : Lowered) (well : IsAlgorithm a) (
       (numbered : (j : ℕ) (v : CodeClaim) → slice_get claims j ≡ Some v → slice_get mine (first + j) ≡ Some v) (lined : body_line plan n ≡ line + 1)
       (alone_here : (j : ℕ) (w : CodeClaim) → slice_get mine j ≡ Some w → line < w.line → w.line < line + (lines (statement_of q.body) + 1) → In w claims)
       (bounded : is_bounded a (texts f) (head_scope h.skeleton) (map whole h.extents) 0 h.formulas h.skeleton.nests ≡ Some true)
-      (lefts : AreLeftsHeld a (texts f) h.formulas h.extents h.skeleton)
+      (lefts : AreLeftsHeld a (texts f) h.formulas h.extents h.skeleton) (owns_held : AreOwnHeld a (texts f) h.formulas h.extents h.skeleton)
       (held_parts : AreHeld a (stored_functions a sch) n (texts f) h.formulas h.skeleton) (place_of : List ℕ → Places) (claim_of_var : List ℕ → Span1)
       (places_are : own_places (dimensions_of (texts f) h.extents h.skeleton) ≡ map place_of f.variables)
       (claims_are : claimed_region (dimensions_of (texts f) h.extents h.skeleton) ≡ map claim_of_var f.variables)
       (whole_dims : (j d : ℕ) (u : FormulaText) (e : Term) (x : List ℕ) (z : Extent) → slice_get h.formulas d ≡ Some u → slice_get u.at j ≡ Some (Some e) → slice_get f.variables j ≡ Some x →
-      slice_get h.extents j ≡ Some z → (place_of x ≡ From (number z.low) z.count) × (claim_of_var x ≡ whole z)) (long_extents : length h.extents ≡ length f.variables)
+      slice_get h.extents j ≡ Some z → (y : Extent) × GoesOn z y × (place_of x ≡ From (number y.low) y.count) × (claim_of_var x ≡ whole y)) (long_extents : length h.extents ≡ length f.variables)
       (dims_are : (outline_of plan cert n (group_of q)).setting.dimensions 0 ≡ length f.variables)
       (ready_nest : (d : ℕ) (w : NestText) → slice_get h.skeleton.nests d ≡ Some w → (known : Known) → scope_of known.binders ≡ bind_steps (head_scope h.skeleton) w.steps →
       IsReadyNest (rules_of a plan cert n) h.formulas place_of claim_of_var f.variables (range_names (ranges_of f.changes d)) d w known)
@@ -717,12 +717,12 @@ module _ (a : Algorithm) (sch : Schedule) (l : Lowered) (well : IsAlgorithm a) (
             ∙ interval_agrees plain_left.scope (called_there a) N vars left (is_among rn) vars_same t ty typed
 
         -- a left index is held by its dimension
-        held_left : (j : ℕ) (c : Coordinate) → slice_get at' j ≡ Some c → (t : Term) → slice_get u.at j ≡ Some (Some t) → (x : Extent) → slice_get h.extents j ≡ Some x →
-            (span_inside scope (T c) (whole x) ≡ true) × (span_inside scope (T c) (range_of I32) ≡ true)
-        held_left j c at_c t at_j x at_x =
+        held_left : (j : ℕ) (c : Coordinate) → slice_get at' j ≡ Some c → (t : Term) → slice_get u.at j ≡ Some (Some t) → (x z : Extent) → slice_get h.extents j ≡ Some x → GoesOn x z →
+            (span_inside scope (T c) (whole z) ≡ true) × (span_inside scope (T c) (range_of I32) ≡ true)
+        held_left j c at_c t at_j x z at_x goes =
             let there_c : slice_get zs j ≡ Some (T c) = ap (λ (ss : List Span1). slice_get ss j) targets ∙ at_map T cs j c (taken_got m cs j c at_c) in
-            let both_so = lefts d u w r defined stands stands_r j t x (T c) at_j at_x there_c in (
-              ap (λ (sc : List Binding). span_inside sc (T c) (whole x)) scoped ∙ both_so.0,
+            let both_so = lefts d u w r defined stands stands_r j t x z (T c) at_j at_x goes there_c in (
+              ap (λ (sc : List Binding). span_inside sc (T c) (whole z)) scoped ∙ both_so.0,
               ap (λ (sc : List Binding). span_inside sc (T c) (range_of I32)) scoped ∙ both_so.1,
             )
 
@@ -737,14 +737,15 @@ module _ (a : Algorithm) (sch : Schedule) (l : Lowered) (well : IsAlgorithm a) (
             (is_seated R known.binders s (place_of x) ≡ true) × (0 < d → is_within R known.binders s (claim_of_var x) ≡ true) × (is_within R known.binders s (index_met O R c.index) ≡ true)
 
         fine_missing : (j : ℕ) (x : List ℕ) (c : Coordinate) (t : Term) → slice_get xs j ≡ Some x → c.index ≡ Found (with_calls (as_load ms) t) → slice_get u.at j ≡ Some (Some t) → (s : Span1) →
-            ((z : Extent) → slice_get h.extents j ≡ Some z → span_inside scope s (whole z) ≡ true) → IsFine x c s
+            ((z y : Extent) → slice_get h.extents j ≡ Some z → GoesOn z y → span_inside scope s (whole y) ≡ true) → IsFine x c s
         fine_missing j x c t at_x found_by at_j s held_s =
             let z = extent_at j x at_x in
-            let inner = held_s z.0 z.1 in
             let dims = whole_dims j d u t x z.0 defined at_j at_x z.1 in
-            let last_is : z.0.low +ℤ pos z.0.count -ℤ pos 1 ≡ z.0.low +ℤ (pos z.0.count -ℤ pos 1) = omega (arith, ints) in (
-              ap (is_seated R known.binders s) dims.0 ∙ (λ i. span_inside scope s (numbers z.0.low (sym last_is i))) ∙ inner,
-              (λ update. ap (is_within R known.binders s) dims.1 ∙ inner),
+            let y : Extent = dims.0 in
+            let inner = held_s z.0 y z.1 dims.1 in
+            let last_is : y.low +ℤ pos y.count -ℤ pos 1 ≡ y.low +ℤ (pos y.count -ℤ pos 1) = omega (arith, ints) in (
+              ap (is_seated R known.binders s) dims.2 ∙ (λ i. span_inside scope s (numbers y.low (sym last_is i))) ∙ inner,
+              (λ update. ap (is_within R known.binders s) dims.3 ∙ inner),
               ap (λ (y : Index). is_within R known.binders s (index_met O R y)) found_by,
             )
 
@@ -787,7 +788,7 @@ module _ (a : Algorithm) (sch : Schedule) (l : Lowered) (well : IsAlgorithm a) (
           where
             of : IsAtPlace j x c → IsFine x c (T c)
             of (inl (z, none)) = subst (IsFine x c) (sym (ap (index_place O R known names left) z.1)) (fine_form x c z.0 z.1 z.2)
-            of (inr (t, at_t, found_by)) = fine_missing j x c t at_x found_by at_t (T c) (λ z at_z. (held_left j c at_c t at_t z at_z).0)
+            of (inr (t, at_t, found_by)) = fine_missing j x c t at_x found_by at_t (T c) (λ z y at_z goes. (held_left j c at_c t at_t z y at_z goes).0)
 
         points_fine : (are_seated R known.binders (map T at') places ≡ true) × (0 < d → are_within R known.binders (map T at') region ≡ true)
         points_fine =
@@ -804,7 +805,8 @@ module _ (a : Algorithm) (sch : Schedule) (l : Lowered) (well : IsAlgorithm a) (
           where
             one : (x : List ℕ) (j : ℕ) (c : Coordinate) → slice_get xs j ≡ Some x → slice_get at' j ≡ Some c → IsAtPlace j x c → is_index_span scope (T c) ≡ true
             one x j c at_x at_c (inl (z, none)) = ap (is_index_span scope) (ap (index_place O R known names left) z.1) ∙ z.2.inside
-            one x j c at_x at_c (inr (t, at_t, found_by)) = (let z = extent_at j x at_x in (held_left j c at_c t at_t z.0 z.1).1)
+            one x j c at_x at_c (inr (t, at_t, found_by)) = (let z = extent_at j x at_x in let dims = whole_dims j d u t x z.0 defined at_t at_x z.1 in (held_left j c at_c t at_t z.0 dims.0
+                z.1 dims.1).1)
 
         vars_long : (length names == length vars) ≡ true
         vars_long =
@@ -924,14 +926,21 @@ module _ (a : Algorithm) (sch : Schedule) (l : Lowered) (well : IsAlgorithm a) (
         Keeps name args =
             (i : ℕ) → d ≡ suc i → name ≡ f.name → (j : ℕ) (x : List ℕ) → slice_get f.variables j ≡ Some x → ((t : Term) → slice_get u.at j ≡ Some (Some t) → ⊥) → has_variable x j args ≡ true
 
+        -- its indices at places where the left index is no variable lie in their dimensions
+        abbrev IsOwnHeld : List ℕ → Terms → Type 0
+        IsOwnHeld x es =
+            x ≡ f.name → (j : ℕ) (e t : Term) (z y : Extent) (s : Span1) → slice_get u.at j ≡ Some (Some e) → slice_get h.extents j ≡ Some z → GoesOn z y → index_at es j ≡ Some t →
+            interval_in a r t ≡ Some s → span_inside r.scope s (whole y) ≡ true
+
         abbrev own_spans : Terms → List Span1
         own_spans es = intervals O R known.binders names vars (all_with_calls (as_load ms) es)
 
-        own_fine : (x : List ℕ) (es : Terms) → x ≡ f.name → IsTyped x es → EachCallOfAll IsSame es → IsBoundedCall x es → Keeps x es → (i : ℕ) → d ≡ suc i → (j : ℕ) (s : Span1) (z : List ℕ)
+        own_fine : (x : List ℕ) (es : Terms) → x ≡ f.name → IsTyped x es → EachCallOfAll IsSame es → IsBoundedCall x es → IsOwnHeld x es → Keeps x es → (i : ℕ) → d ≡ suc i → (j : ℕ) (s :
+            Span1) (z : List ℕ)
             (c : Coordinate) → slice_get (own_spans es) j ≡ Some s → slice_get xs j ≡ Some z → slice_get at' j ≡ Some c → IsFine z c s
-        own_fine x es name t s_all bounded_call keeps i later j s z c at_s at_z at_c = of (placed_of j z c at_z at_c)
+        own_fine x es name t s_all bounded_call own_so keeps i later j s z c at_s at_z at_c = of (placed_of j z c at_z at_c)
           where
-            index : (t : Term) × (nth es j ≡ Some t) × (R.interval known.binders names vars (with_calls (as_load ms) t) ≡ s)
+            index : (t : Term) × (index_at es j ≡ Some t) × (R.interval known.binders names vars (with_calls (as_load ms) t) ≡ s)
             index = interval_nth O R known.binders names vars ms es j s at_s
 
             in_region : is_in_region a r u 0 es regions ≡ Some true
@@ -944,13 +953,13 @@ module _ (a : Algorithm) (sch : Schedule) (l : Lowered) (well : IsAlgorithm a) (
             of (inr (e', at_e, found_by)) =
                 let none : 0 + j ≡ j = omega arith in
                 let left_j : left_at u (0 + j) ≡ Some e' = ap (left_at u) none ∙ ap (λ (o : Option (Option Term)). elim o [ Some i ↦ i | None ↦ None ]) at_e in
-                fine_missing j z c e' at_z found_by at_e s (λ ext at_ext.
+                fine_missing j z c e' at_z found_by at_e s (λ ext y at_ext goes.
                 (let told_so = region_nth a r u 0 es regions in_region j index.0 (whole ext) e' index.1 (at_map whole h.extents j ext at_ext) left_j in
                 let same_j = each_nth IsSame es j index.0 s_all index.1 in
                 let typed_j = typed_nth (is_among names) (callable a a.functions) es j index.0 t.0 index.1 in
                 let is_s : told_so.0 ≡ s =
                 sym (index_bounds a plan cert n O known.binders names vars r scoped names_text vars_are vars_inside vars_long ms index.0 same_j typed_j told_so.0 told_so.1) ∙ index.2 in
-                (λ k'. span_inside (scoped k') (sym is_s k') (whole ext)) ∙ told_so.2))
+                (λ k'. span_inside (scoped k') (sym is_s k') (whole y)) ∙ own_so name j e' index.0 ext y told_so.0 at_e at_ext goes index.1 told_so.1))
             of (inl (p, no_expression)) =
                 let variable = variable_nth z j es index.0 (keeps i later name j z at_z no_expression) index.1 in
                 let term : index.0 ≡ Name z = is_name z index.0 variable in
@@ -979,9 +988,10 @@ module _ (a : Algorithm) (sch : Schedule) (l : Lowered) (well : IsAlgorithm a) (
             of true = ((λ more. so), tt)
             of false = tt
 
-        own_shows : (x : List ℕ) (es : Terms) → IsTyped x es → EachCallOfAll IsSame es → IsBoundedCall x es → Keeps x es → (c i : ℕ) → d ≡ suc i → same_name f.name x ≡ true → c ≡ first_own + i →
+        own_shows : (x : List ℕ) (es : Terms) → IsTyped x es → EachCallOfAll IsSame es → IsBoundedCall x es → IsOwnHeld x es → Keeps x es → (c i : ℕ) → d ≡ suc i → same_name f.name x ≡ true
+            → c ≡ first_own + i →
             ShowsBy (ByClaim c) (own_spans es)
-        own_shows x es t s_all bounded_call keeps c i later own number =
+        own_shows x es t s_all bounded_call own_so keeps c i later own number =
             let name : x ≡ f.name = sym (name_true f.name x own) in
             let there_too : i < length k.nests = (let l' = less in omega (arith, l', later)) in
             let known_own = own_known a sch l well legal small kept all groups told free n q place f at there first line claims needs theirs h hold numbered lined i there_too in
@@ -992,7 +1002,7 @@ module _ (a : Algorithm) (sch : Schedule) (l : Lowered) (well : IsAlgorithm a) (
             sym (ap (callable a a.functions) name ∙ named_callable a a.functions f.name f (named_here a well place f at)) ∙ answer.1 in
             let count : length f.variables ≡ answer.0.1 = second f.ty (length f.variables) answer.0 takes in
             let many : length (own_spans es) ≡ length xs = intervals_long a plan cert n O known.binders names vars r scoped names_text vars_are vars_inside vars_long ms es ∙ sym (count ∙ answer.2) in
-            let all_so = all_fine (own_spans es) many (λ j s z c' at_s at_z at_c. own_fine x es name t s_all bounded_call keeps i later j s z c' at_s at_z at_c) in
+            let all_so = all_fine (own_spans es) many (λ j s z c' at_s at_z at_c. own_fine x es name t s_all bounded_call own_so keeps i later j s z c' at_s at_z at_c) in
             let held_places : places_of known.buffers (O.claim c).buffer ≡ Some places = ap (places_of known.buffers) buffer ∙ own_here in (
               (λ more. ap (λ (o : Option (List Places)). shows R nests known.binders (seated O R o (own_spans es))) held_places ∙ all_so.0),
               (λ more. absurd (more tt), (λ more. ap (are_within R known.binders (own_spans es)) over_region ∙ all_so.1 (omega (arith, later)), met_within (own_spans es) all_so.2 d c)),
@@ -1013,7 +1023,7 @@ module _ (a : Algorithm) (sch : Schedule) (l : Lowered) (well : IsAlgorithm a) (
             each_call-weaker (Keeping u.at) Keeps (λ x es z i more name j' x' at_x none. z name j' x' at_x none) u.value (owns d u defined j later)
 
         abbrev IsReadyCall : List ℕ → Terms → Type 0
-        IsReadyCall x es = (IsTyped x es × EachCallOfAll IsSame es) × (IsBoundedCall x es × SourceIs x es)
+        IsReadyCall x es = (IsTyped x es × EachCallOfAll IsSame es) × ((IsBoundedCall x es × IsOwnHeld x es) × SourceIs x es)
 
         abbrev IsTold : List ℕ → Terms → Type 0
         IsTold x es = IsReadyCall x es × (IsFoundCall x es × Keeps x es)
@@ -1022,8 +1032,10 @@ module _ (a : Algorithm) (sch : Schedule) (l : Lowered) (well : IsAlgorithm a) (
         told_calls =
             let inner = each_inner IsSame u.value (same_of u.value sources) in
             let one = each_both IsTyped (λ x es. EachCallOfAll IsSame es) u.value typed_value inner in
-            let two = each_both IsBoundedCall SourceIs u.value (each_of IsBoundedCall u.value all_bounded.1) sources in
-            let three = each_both (λ x es. IsTyped x es × EachCallOfAll IsSame es) (λ x es. IsBoundedCall x es × SourceIs x es) u.value one two in
+            let held_so = each_of IsOwnHeld u.value (parts IsOwnHeld (flat_map calls_left u.at) (calls_of u.value) (owns_held d u w r defined stands stands_r)).1 in
+            let both_so = each_both IsBoundedCall IsOwnHeld u.value (each_of IsBoundedCall u.value all_bounded.1) held_so in
+            let two = each_both (λ x es. IsBoundedCall x es × IsOwnHeld x es) SourceIs u.value both_so sources in
+            let three = each_both (λ x es. IsTyped x es × EachCallOfAll IsSame es) (λ x es. (IsBoundedCall x es × IsOwnHeld x es) × SourceIs x es) u.value one two in
             let four = each_both IsFoundCall Keeps u.value (each_of IsFoundCall u.value all_found.1) (keeping d refl) in
             each_both IsReadyCall (λ x es. IsFoundCall x es × Keeps x es) u.value three four
 
@@ -1034,7 +1046,7 @@ module _ (a : Algorithm) (sch : Schedule) (l : Lowered) (well : IsAlgorithm a) (
               (by_claim by.0 (last_is a sch l well legal small kept all groups told free n q place f at there first line claims needs theirs h hold numbered lined d x by.0 by.1))
           | inr input ↦
               subst (λ (s : Source). ShowsBy s (own_spans es)) (sym input) (
-                (λ more. one_within x es z.0.0.0.1 z.0.1.0 (z.0.1.1.1 input) (own_spans es)
+                (λ more. one_within x es z.0.0.0.1 z.0.1.0.0 (z.0.1.1.1 input) (own_spans es)
                     (λ on count. input_within a plan cert n O known.binders names vars r scoped names_text vars_are vars_inside vars_long ms es a.input_extents on count z.0.0.1 z.0.0.0.0)),
                 tt,
               )
@@ -1042,7 +1054,7 @@ module _ (a : Algorithm) (sch : Schedule) (l : Lowered) (well : IsAlgorithm a) (
           where
             by_claim : (c : ℕ) → IsLast a sch l well legal small kept all groups told free n q place f at there first line claims needs theirs h hold numbered lined d x c →
                 ShowsBy (ByClaim c) (own_spans es)
-            by_claim c (inl own) = own_shows x es z.0.0.0 z.0.0.1 z.0.1.0 z.1.1 c own.0 own.1 own.2 own.3
+            by_claim c (inl own) = own_shows x es z.0.0.0 z.0.0.1 z.0.1.0.0 z.0.1.0.1 z.1.1 c own.0 own.1 own.2 own.3
             by_claim c (inr by) =
                 fetch_shows x es z.0.0.0.1 z.1.0 c by.1 by.0 (own_spans es)
                 (intervals_long a plan cert n O known.binders names vars r scoped names_text vars_are vars_inside vars_long ms es)

@@ -22,7 +22,7 @@ use Rattle.cert.specs.Notation.{fits_certificate, certificate_lines, certificate
 use Rattle.cert.specs.File.Cut.{EndsLine, IsCut, certificate_head}
 use Rattle.cert.specs.File.File.{IsFileOf, CertificateRefused, IsRefusedFile}
 use Rattle.cert.proofs.Turns.{lawful as lawful_certificates}
-use Rattle.completeness.specs.OfPlans.{file_text, is_short, AreLinesShort, IsFileOfPlan}
+use Rattle.completeness.specs.OfPlans.{file_text, is_short, AreLinesShort, AreStoresSmall, IsFileOfPlan}
 use Rattle.completeness.proofs.SaidFiles.{no_lines, no_earlier, files_fit}
 
 -- ---- the text of a value that fits
@@ -160,5 +160,11 @@ module _ (p : Plan) (c : Certificate) (plan_fits : fits_plan p ≡ true) (certif
           subst (λ (q : Plan). are_within (certificate_line q) (certificate_lines c) ≡ true) (sym same) within.certificate in
           never_bad certificate_notation lawful_certificates (certificate_line h.plan) r.back c line (record { spelled = cut.is_behind; fit = certificate_fits; within = here }) h.refused.0
 
-  pub file_of_plan : IsFileOfPlan p c
-  file_of_plan = record { read = λ short. let within = all_within short in files_fit p c plan_fits certificate_fits within.plan within.certificate; alone = alone; formed = formed; limited = limited }
+  pub file_of_plan : (AreStoresSmall p → AreLinesShort p c) → IsFileOfPlan p c
+  file_of_plan small_stores = record {
+    short = small_stores;
+    read = λ short. let within = all_within short in files_fit p c plan_fits certificate_fits within.plan within.certificate;
+    alone = alone;
+    formed = formed;
+    limited = limited;
+  }

@@ -308,7 +308,7 @@ module _ (a : Algorithm) (sch : Schedule) (l : Lowered) (well : IsAlgorithm a) (
       let behind_head = rises_to (length k.grid) next k.head own.rises in
       let r : List Span1 = claimed_region (dimensions_of u h.extents k) in
       let nests = nests_shaped next k.nests own.nests_rise short.nests (omega (arith, few, head_symbols, behind_head, definitions)) u fs r ms (c + length b.fetches) (line + first_lines k +
-          2 * length b.fetches) 0 b.nests b.own b.nested in
+      2 * length b.fetches) 0 b.nests b.own b.nested in
       let single : are_single (block rest) ≡ true = singles_both b.nests publish nests.single refl in
       let form : are_in_form (block rest) ≡ true = formed (block rest) (ends b.nests last nests.work) in
       let buffers = fetches_few a entries (roots_few a sch l well legal small kept all groups) n c line u q v.claims v.needs h in

@@ -279,6 +279,18 @@ coordinates_below k order names d n at =
     if_weaker (Some f) h =
         all_weaker (λ t. Here (OverGrid k) n.steps t.symbol) (λ t. t.symbol < length (bind_steps (head_scope k) n.steps)) (λ t q. nest_below k order.next order.head n t.symbol q) f.terms h
 
+-- so do all spans of its coordinates, with those of left indices
+pub around_below : (a : Algorithm) (g : StoredText) (k : SkeletonText) → BindInOrder k → NamesOwn k → (d : ℕ) (n : NestText) → slice_get k.nests d ≡ Some n → (f : FormulaText) (cs : List Span1) →
+    coordinates_behind a (left_around g (head_scope k) n d) f [] 0 n.at ≡ Some cs → AllByRecursion (SpanOnly (Below (length (bind_steps (head_scope k) n.steps)))) cs
+around_below a g k order names d n at f cs e =
+    let N = length (bind_steps (head_scope k) n.steps) in
+    let if_weaker : (o : Option Form) → OnlyIf (Here (OverGrid k) n.steps) o → OnlyIf (Below N) o = λ o. elim o as (λ o. OnlyIf (Here (OverGrid k) n.steps) o → OnlyIf (Below N) o) [
+      | None ↦ λ h. tt
+      | Some f ↦ λ h. all_weaker (λ t. Here (OverGrid k) n.steps t.symbol) (λ t. t.symbol < N) (λ t q. nest_below k order.next order.head n t.symbol q) f.terms h
+    ] in
+    coordinates_only (Below N) a (left_around g (head_scope k) n d) (coordinates_below k order names d n at) f [] 0 n.at cs tt
+    (all_weaker (OnlyIf (Here (OverGrid k) n.steps)) (OnlyIf (Below N)) if_weaker n.at (names.nests d n at)) e
+
 -- ---- freed of all but the grid's
 
 apart : (m c s : ℕ) → is_inner (symbols_from m c) s ≡ false → s < m + c → s < m

@@ -40,6 +40,7 @@ use Rattle.lower.specs.Loading.{Loads, as_load}
 use Rattle.lower.specs.Bodies.{first_left, other_lefts, IsIndex, AreCoordinates}
 use Rattle.lower.proofs.Covering.{NumbersAre}
 use Rattle.lower.proofs.Laying.{bound, same}
+use Rattle.completeness.specs.Placed.{index_at}
 use Rattle.completeness.proofs.StoreBounds.{AreAt, IsAt}
 
 -- ---- lists
@@ -195,28 +196,23 @@ module _ (O : Outline) (R : Rules) (ms : Loads) where
 
 -- ---- the indices of a call
 
-abbrev pub nth : Terms → ℕ → Option Term
-nth End j = None
-nth (More e es) zero = Some e
-nth (More e es) (suc j) = nth es j
-
 pub interval_nth : (O : Outline) (R : Rules) (bs : List Binder) (names : List (List ℕ)) (vars : List Span1) (ms : Loads) (es : Terms) (j : ℕ) (s : Span1) →
-    slice_get (intervals O R bs names vars (all_with_calls (as_load ms) es)) j ≡ Some s → (t : Term) × (nth es j ≡ Some t) × (R.interval bs names vars (with_calls (as_load ms) t) ≡ s)
+    slice_get (intervals O R bs names vars (all_with_calls (as_load ms) es)) j ≡ Some s → (t : Term) × (index_at es j ≡ Some t) × (R.interval bs names vars (with_calls (as_load ms) t) ≡ s)
 interval_nth O R bs names vars ms End j s e = absurd (cc e)
 interval_nth O R bs names vars ms (More t es) zero s e = (t, refl, same (R.interval bs names vars (with_calls (as_load ms) t)) s e)
 interval_nth O R bs names vars ms (More t es) (suc j) s e = interval_nth O R bs names vars ms es j s e
 
-pub variable_nth : (v : List ℕ) (j : ℕ) (es : Terms) (t : Term) → has_variable v j es ≡ true → nth es j ≡ Some t → is_variable v t ≡ true
+pub variable_nth : (v : List ℕ) (j : ℕ) (es : Terms) (t : Term) → has_variable v j es ≡ true → index_at es j ≡ Some t → is_variable v t ≡ true
 variable_nth v j End t h e = absurd (cc e)
 variable_nth v zero (More u es) t h e = ap (is_variable v) (sym (same u t e)) ∙ h
 variable_nth v (suc j) (More u es) t h e = variable_nth v j es t h e
 
-pub each_nth : (P : List ℕ → Terms → Type 0) (es : Terms) (j : ℕ) (t : Term) → EachCallOfAll P es → nth es j ≡ Some t → EachCall P t
+pub each_nth : (P : List ℕ → Terms → Type 0) (es : Terms) (j : ℕ) (t : Term) → EachCallOfAll P es → index_at es j ≡ Some t → EachCall P t
 each_nth P End j t h e = absurd (cc e)
 each_nth P (More u es) zero t h e = subst (EachCall P) (same u t e) h.0
 each_nth P (More u es) (suc j) t h e = each_nth P es j t h.1 e
 
-pub typed_nth : (known : List ℕ → Bool) (functions : List ℕ → Option (Ty × ℕ)) (es : Terms) (j : ℕ) (t : Term) → are_indices known functions es ≡ true → nth es j ≡ Some t →
+pub typed_nth : (known : List ℕ → Bool) (functions : List ℕ → Option (Ty × ℕ)) (es : Terms) (j : ℕ) (t : Term) → are_indices known functions es ≡ true → index_at es j ≡ Some t →
     type_of known functions t ≡ Some I32
 typed_nth known functions End j t h e = absurd (cc e)
 typed_nth known functions (More u es) zero t h e =
@@ -225,7 +221,7 @@ typed_nth known functions (More u es) (suc j) t h e = typed_nth known functions 
 
 -- an index at a place where the left index is no variable is shown to be in the region
 pub region_nth : (a : Algorithm) (r : AroundText) (u : FormulaText) (d : ℕ) (es : Terms) (xs : List Span1) → is_in_region a r u d es xs ≡ Some true → (j : ℕ) (t : Term) (z : Span1) (e : Term) →
-    nth es j ≡ Some t → slice_get xs j ≡ Some z → left_at u (d + j) ≡ Some e → (s : Span1) × (interval_in a r t ≡ Some s) × (span_inside r.scope s z ≡ true)
+    index_at es j ≡ Some t → slice_get xs j ≡ Some z → left_at u (d + j) ≡ Some e → (s : Span1) × (interval_in a r t ≡ Some s) × (span_inside r.scope s z ≡ true)
 region_nth a r u d End xs h j t z e at there left = absurd (cc at)
 region_nth a r u d (More i es) [] h j t z e at there left = absurd (cc there)
 region_nth a r u d (More i es) (x ∷ xs) h j t z e at there left =
@@ -240,9 +236,9 @@ region_nth a r u d (More i es) (x ∷ xs) h j t z e at there left =
         let c = bound (interval_in a r i) (λ s. Some (span_inside r.scope s x)) true told in
         (c.value, c.is, same (span_inside r.scope c.value x) true c.comes)
 
-    of : (v : Bool) → is_place_bounded a r u d i x ≡ Some v → (if v then is_in_region a r u (d + 1) es xs else Some false) ≡ Some true → (j : ℕ) → nth (More i es) j ≡ Some t →
+    of : (v : Bool) → is_place_bounded a r u d i x ≡ Some v → (if v then is_in_region a r u (d + 1) es xs else Some false) ≡ Some true → (j : ℕ) → index_at (More i es) j ≡ Some t →
         slice_get (x ∷ xs) j ≡ Some z → left_at u (d + j) ≡ Some e →
-        ((k : ℕ) → is_in_region a r u (d + 1) es xs ≡ Some true → nth es k ≡ Some t → slice_get xs k ≡ Some z → left_at u ((d + 1) + k) ≡ Some e →
+        ((k : ℕ) → is_in_region a r u (d + 1) es xs ≡ Some true → index_at es k ≡ Some t → slice_get xs k ≡ Some z → left_at u ((d + 1) + k) ≡ Some e →
         (s : Span1) × (interval_in a r t ≡ Some s) × (span_inside r.scope s z ≡ true)) → (s : Span1) × (interval_in a r t ≡ Some s) × (span_inside r.scope s z ≡ true)
     of false q k j at there left later = absurd (cc k)
     of true q k zero at there left later =

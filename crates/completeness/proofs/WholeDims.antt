@@ -1,8 +1,9 @@
--- A dimension of which no loop is parallel, and no split's block runs past the last number, belongs to each piece whole: its buffer and the claims on it have all its numbers.
-use Rattle.std.proofs.Common.{◌≡◌, ℕ, zero, suc, ◌+◌, ◌*◌, ◌<◌, Bool, true, false, ◌||◌, not, List, [], ◌∷◌, Some, None, refl, sym, ap, ◌∙◌, subst, inl, inr, arith}
-use Rattle.std.specs.Prelude.{pos, ◌+ℤ◌, ◌-ℤ◌, ◌%◌, ◌==◌, if◌then◌else◌, slice_get}
+-- A dimension of which no loop is parallel belongs to each piece whole: its buffer and the claims on it have all its numbers, and those behind them that its blocks reach.
+use Rattle.std.proofs.Common.{◌≡◌, ℕ, zero, suc, ◌+◌, ◌*◌, ◌<◌, ◌≤◌, Bool, true, false, ◌||◌, not, List, [], ◌∷◌, Some, None, refl, sym, ap, ◌∙◌, subst, inl, inr, arith}
+use Rattle.std.specs.Prelude.{ℤ, ◌-◌, ◌≤ℤ◌, pos, ◌+ℤ◌, ◌-ℤ◌, ◌%◌, ◌==◌, if◌then◌else◌, slice_get}
 use Rattle.std.specs.List.{AllByRecursion}
 use Rattle.std.proofs.lemmas.Bool.Decides.{nat_tests}
+use Rattle.std.proofs.lemmas.Int.{ints}
 use Rattle.lin.specs.Forms.{number}
 use Rattle.lin.specs.declared.span.Span1.{Span1}
 use Rattle.bounds.specs.Spans.{numbers}
@@ -23,14 +24,12 @@ use Rattle.headline.proofs.Regions.{at_in}
 use Rattle.sched.specs.Schedule.{Schedule}
 use Rattle.sched.specs.Legal.{IsLegal}
 use Rattle.sched.specs.declared.schedule.Split.{Split}
-use Rattle.sched.specs.declared.schedule.Tail.{Tail}
-use Rattle.sched.specs.declared.schedule.Tail.TheVariants.{Guard, Roundup, Shift}
 use Rattle.sched.specs.declared.placing.Loop.{Loop}
 use Rattle.sched.specs.declared.numbers.Extent.{Extent}
 use Rattle.sched.specs.declared.numbers.Numbers.{Numbers}
 use Rattle.sched.specs.Placing.{is_parallel}
 use Rattle.sched.specs.Numbers.{numbers_named, last_number, loop_numbers, parallel_loops}
-use Rattle.sched.specs.Standing.{has_rest, overruns}
+use Rattle.sched.specs.Standing.{has_rest}
 use Rattle.sched.proofs.Rooting.{HaveDimensions, IsHeld}
 use Rattle.sched.proofs.Arranging.{LoopFits, SplitFits}
 use Rattle.lower.specs.declared.lowering.Lowered.{Lowered}
@@ -45,11 +44,14 @@ use Rattle.lower.proofs.Owners as owners
 use Rattle.completeness.specs.Laws.{AreSplitOnce}
 use Rattle.completeness.specs.Parted.{KeepsInner}
 use Rattle.completeness.specs.Blocked.{is_tailed, makes_line}
+use Rattle.completeness.specs.Filled.{AreEndsShort}
+use Rattle.completeness.specs.Placed.{GoesOn}
+use Rattle.completeness.proofs.RegionBounds.{IsEnded}
 use Rattle.completeness.proofs.Served.{roots}
-use Rattle.completeness.proofs.PureNests.{all_in, loop_name}
+use Rattle.completeness.proofs.PureNests.{all_in, all_get, loop_name}
 use Rattle.completeness.proofs.PlainTurns.{one_if, hits}
 use Rattle.completeness.proofs.StoreLists.{numbers_at}
-use Rattle.completeness.proofs.BlockDims.{top, top_high, top_full, full_last, end_of_all, all_of}
+use Rattle.completeness.proofs.BlockDims.{top, top_low, top_high, top_full, end_of_all, all_of}
 use Rattle.completeness.proofs.BlockNests as nests_of
 
 -- no parallel loop of this name
@@ -119,7 +121,7 @@ module _ (a : Algorithm) (sch : Schedule) (l : Lowered) (well : IsAlgorithm a) (
     claim_named x = (dimension_of (lay_over g h.extents h.skeleton) cuts x).claim
 
     module _ (j : ℕ) (x : List ℕ) (at_x : slice_get xs j ≡ Some x) (apart : (o : Loop) → In o ls → is_parallel o ≡ true → o.dimension ≡ j → ⊥)
-        (within : AllByRecursion (λ c. slice_get xs j ≡ Some c.whole → overruns rs c ≡ false) cuts) where
+        (ended : AllByRecursion IsEnded h.extents) (early : AreEndsShort rs cuts) where
       abbrev dim : List ℕ → ℕ
       dim = (owners.arranged g h.extents h.skeleton laid).dim
 
@@ -132,63 +134,83 @@ module _ (a : Algorithm) (sch : Schedule) (l : Lowered) (well : IsAlgorithm a) (
       here : dim x ≡ j
       here = (let none : 0 + j ≡ j = omega arith in dimension_at dim 0 xs (owners.arranged g h.extents h.skeleton laid).dimensions j x at_x ∙ none)
 
-      cut_dims : (c : Split) → In c cuts → c.whole ≡ x → (claim_named x ≡ numbers (numbers_named rs x).low (last_number (numbers_named rs x)))
-          × (place_named x ≡ From (number (numbers_named rs x).low) (numbers_named rs x).count)
+      -- the dimension has these numbers, and perhaps more behind them
+      abbrev IsReached : List ℕ → Extent → Type 0
+      IsReached y e =
+          (e.low ≡ (numbers_named rs y).low) × ((numbers_named rs y).count ≤ e.count) × ((e.low +ℤ pos e.count -ℤ pos 1) ≤ℤ pos 2147483647) × (place_named y ≡ From (number e.low) e.count)
+          × (claim_named y ≡ whole e)
+
+      last_here : last_number (numbers_named rs x) ≤ℤ pos 2147483647
+      last_here =
+          let e = numbers_at rs xs h.extents (owners.numbers g h.extents h.skeleton laid) j x at_x in
+          subst (λ (r : Numbers). last_number r ≤ℤ pos 2147483647) (sym e.2) (all_get IsEnded h.extents j e.0 ended e.1)
+
+      cut_dims : (c : Split) → In c cuts → c.whole ≡ x → (e : Extent) × IsReached c.whole e
       cut_dims c m is =
           let r = owners.arranged g h.extents h.skeleton laid in
           let none = none_of c.outer ((all_in (SplitFits r.rs r.w r.b r.dim g.placed.used) cuts c r.cuts m).along.outer ∙ ap dim is ∙ here) in
           let d = nests_of.dim_split a sch l well legal small kept all groups n first line g p claims needs at there h lined placed alone_here laid split_alone keeps filled c m none in
-          let clear : overruns rs c ≡ false = all_in (λ c. slice_get xs j ≡ Some c.whole → overruns rs c ≡ false) cuts c within m (at_x ∙ ap (λ (y : List ℕ). Some y) (sym is)) in
           let free = nests_of.free a sch l well legal small kept all groups n first line g p claims needs at there h lined placed alone_here laid split_alone keeps filled c m in
           let fits = nests_of.fits a sch l well legal small kept all groups n first line g p claims needs at there h lined placed alone_here laid split_alone keeps filled c m in
           let fit = nests_of.fit_of a sch l well legal small kept all groups n first line g p claims needs at there h lined placed alone_here laid split_alone keeps filled c.whole
           (nests_of.wholes a sch l well legal small kept all groups n first line g p claims needs at there h lined placed alone_here laid split_alone keeps filled c m) in
-          let w = whole_split c fits fit.0 fit.1 free clear in
-          subst (λ (y : List ℕ). (claim_named y ≡ numbers (numbers_named rs y).low (last_number (numbers_named rs y))) × (place_named y ≡ From (number (numbers_named rs y).low)
-          (numbers_named rs y).count))
-          is (d.0 ∙ ap (numbers (numbers_named rs c.whole).low) w.0, d.1 ∙ ap (From (number (numbers_named rs c.whole).low)) w.1)
+          let last_so : last_number (numbers_named rs c.whole) ≤ℤ pos 2147483647 = subst (λ (y : List ℕ). last_number (numbers_named rs y) ≤ℤ pos 2147483647) (sym is) last_here in
+          let near = all_in (λ c. is_tailed rs c ≡ false → has_rest c (numbers_named rs c.whole).count ≡ true → (last_number (numbers_named rs c.whole) +ℤ pos c.factor) ≤ℤ pos 2147483647)
+              cuts c early m in
+          let w = whole_split c fits fit.0 fit.1 free last_so near in
+          let e : Extent = record { low = (numbers_named rs c.whole).low; count = all_of ls rs c free fits fit.0 fit.1 } in
+          (e, (refl, w.0, w.2, d.1, d.0 ∙ ap (numbers (numbers_named rs c.whole).low) (sym w.1)))
         where
-          -- all blocks together have the loop's numbers and no more
+          -- all blocks together have the loop's numbers
           whole_split : (c : Split) (fits : CutFits rs c) (fit : IsSmall (numbers_named rs c.whole)) (some : 0 < (numbers_named rs c.whole).count) (free : makes_line ls rs c ≡ false) →
-              overruns rs c ≡ false → (end_of_all ls rs c free fits fit some ≡ last_number (numbers_named rs c.whole)) × (all_of ls rs c free fits fit some ≡ (numbers_named rs c.whole).count)
-          whole_split c fits fit some free clear = of (is_tailed rs c) refl
+              last_number (numbers_named rs c.whole) ≤ℤ pos 2147483647 →
+              (is_tailed rs c ≡ false → has_rest c (numbers_named rs c.whole).count ≡ true → (last_number (numbers_named rs c.whole) +ℤ pos c.factor) ≤ℤ pos 2147483647) →
+              ((numbers_named rs c.whole).count ≤ all_of ls rs c free fits fit some)
+              × ((numbers_named rs c.whole).low +ℤ pos (all_of ls rs c free fits fit some) -ℤ pos 1 ≡ end_of_all ls rs c free fits fit some)
+              × (((numbers_named rs c.whole).low +ℤ pos (all_of ls rs c free fits fit some) -ℤ pos 1) ≤ℤ pos 2147483647)
+          whole_split c fits fit some free last_so near = of (is_tailed rs c) refl
             where
               own : Numbers
               own = numbers_named rs c.whole
 
-              full : is_tailed rs c ≡ false → has_rest c own.count ≡ false
-              full e = by c.tail e clear
-                where
-                  by : (t : Tail) → (elim t [ Guard ↦ has_rest c own.count | Roundup ↦ false | Shift ↦ true ]) ≡ false →
-                      (elim t [ Roundup ↦ has_rest c own.count | Guard ↦ false | Shift ↦ false ]) ≡ false → has_rest c own.count ≡ false
-                  by Guard q k = q
-                  by Roundup q k = k
-                  by Shift q k = absurd (cc q)
+              t : ℕ
+              t = top own.count c.factor
+
+              regrouped : (z : ℤ) (p w : ℕ) → z +ℤ pos (p + w) -ℤ pos 1 ≡ z +ℤ (pos p +ℤ (pos w -ℤ pos 1))
+              regrouped z p w = omega (arith, ints)
+
+              short : (z : ℤ) (n p w : ℕ) → 0 < n → p ≤ n - 1 → (z +ℤ pos n -ℤ pos 1 +ℤ pos w) ≤ℤ pos 2147483647 → (z +ℤ pos (p + w) -ℤ pos 1) ≤ℤ pos 2147483647
+              short z n p w more le few = omega (arith, ints, more, le, few)
+
+              full : (z : ℤ) (n p w : ℕ) → p + w ≤ n → (z +ℤ pos n -ℤ pos 1) ≤ℤ pos 2147483647 → (z +ℤ pos (p + w) -ℤ pos 1) ≤ℤ pos 2147483647
+              full z n p w le few = omega (arith, ints, le, few)
+
+              bare_last : (b : Bool) → has_rest c own.count ≡ b → is_tailed rs c ≡ false → (own.low +ℤ pos (t * c.factor + c.factor) -ℤ pos 1) ≤ℤ pos 2147483647
+              bare_last true k e = short own.low own.count (t * c.factor) c.factor some (top_low own.count c.factor some fits.some) (near e k)
+              bare_last false k e = full own.low own.count (t * c.factor) c.factor (top_full own.count c.factor some fits.some (no_rest c.factor own.count k)) last_so
 
               of : (v : Bool) → is_tailed rs c ≡ v →
-                  ((if v then last_number own else (own.low +ℤ (pos (top own.count c.factor * c.factor) +ℤ (pos c.factor -ℤ pos 1)))) ≡ last_number own)
-                  × ((if v then own.count else top own.count c.factor * c.factor + c.factor) ≡ own.count)
-              of true e = (refl, refl)
-              of false e =
-                  let none = full e in
-                  let low = top_high own.count c.factor some fits.some in
-                  let high = top_full own.count c.factor some fits.some (no_rest c.factor own.count none) in
-                  (sym (full_last ls rs c free fits fit some none), omega (arith, low, high))
+                  (own.count ≤ (if v then own.count else t * c.factor + c.factor))
+                  × (own.low +ℤ pos (if v then own.count else t * c.factor + c.factor) -ℤ pos 1 ≡ (if v then last_number own else (own.low +ℤ (pos (t * c.factor) +ℤ (pos c.factor -ℤ pos 1)))))
+                  × ((own.low +ℤ pos (if v then own.count else t * c.factor + c.factor) -ℤ pos 1) ≤ℤ pos 2147483647)
+              of true e = (omega arith, refl, last_so)
+              of false e = (top_high own.count c.factor some fits.some, regrouped own.low (t * c.factor) c.factor, bare_last (has_rest c own.count) refl e)
 
-      pub whole_named : (claim_named x ≡ numbers (numbers_named rs x).low (last_number (numbers_named rs x)))
-          × (place_named x ≡ From (number (numbers_named rs x).low) (numbers_named rs x).count)
-      whole_named = elim (all_in (IsHeld ls cuts) xs x (owners.arranged g h.extents h.skeleton laid).variables (at_in xs j x at_x)) [
-        | inl o ↦ nests_of.dim_loop a sch l well legal small kept all groups n first line g p claims needs at there h lined placed alone_here laid split_alone keeps filled x (at_in xs j x at_x)
-            (none_of x here) (o.0, o.1, o.2)
-        | inr c ↦ cut_dims c.0 c.1 c.2
+      reached : (e : Extent) × IsReached x e
+      reached = elim (all_in (IsHeld ls cuts) xs x (owners.arranged g h.extents h.skeleton laid).variables (at_in xs j x at_x)) [
+        | inl o ↦
+            (let d = nests_of.dim_loop a sch l well legal small kept all groups n first line g p claims needs at there h lined placed alone_here laid split_alone keeps filled x (at_in xs j x at_x)
+            (none_of x here) (o.0, o.1, o.2) in
+            (record { low = (numbers_named rs x).low; count = (numbers_named rs x).count }, (refl, omega arith, last_here, d.1, d.0)))
+        | inr c ↦ subst (λ (y : List ℕ). (e : Extent) × IsReached y e) c.2 (cut_dims c.0 c.1 c.2)
       ]
 
       -- as the buffer and the claims have it
-      pub whole_dimension : (z : Extent) → slice_get h.extents j ≡ Some z → (place_named x ≡ From (number z.low) z.count) × (claim_named x ≡ whole z)
+      pub whole_dimension : (z : Extent) → slice_get h.extents j ≡ Some z → (y : Extent) × GoesOn z y × (place_named x ≡ From (number y.low) y.count) × (claim_named x ≡ whole y)
       whole_dimension z at_z =
           let e = numbers_at rs xs h.extents (owners.numbers g h.extents h.skeleton laid) j x at_x in
           let same_z : e.0 ≡ z = (let some : Some e.0 ≡ Some z = sym e.1 ∙ at_z in cc some) in
-          let y = whole_named in (
-            y.1 ∙ ap (λ (r : Numbers). From (number r.low) r.count) e.2 ∙ ap (λ (w : Extent). From (number w.low) w.count) same_z,
-            y.0 ∙ ap (λ (r : Numbers). numbers r.low (last_number r)) e.2 ∙ ap whole same_z,
-          )
+          let r = reached in
+          let low : r.0.low ≡ z.low = r.1.0 ∙ ap (λ (q : Numbers). q.low) e.2 ∙ ap (λ (w : Extent). w.low) same_z in
+          let count : z.count ≤ r.0.count = subst (λ (w : ℕ). w ≤ r.0.count) (ap (λ (q : Numbers). q.count) e.2 ∙ ap (λ (w : Extent). w.count) same_z) r.1.1 in
+          (r.0, record { low = low; count = count; last = r.1.2 }, r.1.3, r.1.4)

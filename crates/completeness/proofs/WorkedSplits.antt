@@ -119,17 +119,7 @@ laid_first = laid_in (slice_get (laid_functions two_functions gs) 0)
 abbrev laid_second : LaidText
 laid_second = laid_in (slice_get (laid_functions two_functions gs) 1)
 
--- the one left index is the first of the update
-only_left : (d j : ℕ) (e : Term) → left_in (formulas_in first.formulas) d j ≡ Some (Some e) → j ≡ 0
-unfolding lefts_in formulas_in
-only_left zero zero e q = refl
-only_left zero (suc zero) e q = absurd (cc q)
-only_left zero (suc (suc j)) e q = absurd (cc q)
-only_left (suc zero) zero e q = refl
-only_left (suc zero) (suc zero) e q = absurd (cc q)
-only_left (suc zero) (suc (suc j)) e q = absurd (cc q)
-only_left (suc (suc d)) j e q = absurd (cc q)
-
+-- the other has no left index that is no variable
 none_left : (d j : ℕ) (e : Term) → left_in (formulas_in second.formulas) d j ≡ Some (Some e) → ⊥
 unfolding lefts_in formulas_in
 none_left zero zero e q = cc q
@@ -147,21 +137,10 @@ first_settled = (
 )
 
 first_placed : ArePlaced two_functions first (formulas_in first.formulas) laid_first
-first_placed = record {
-  within = λ d j f e at_f at_e.
-      (let is = only_left d j e (left_there (formulas_in first.formulas) d j f e at_f at_e) in ((λ other. absurd (apart j is other)), tt));
-  settled = λ d j f e at_f at_e. first_settled;
-}
-  where
-    apart : (j : ℕ) → j ≡ 0 → slice_get first.subject.variables j ≡ Some (121 ∷ []) → ⊥
-    apart zero is q = cc q
-    apart (suc j) is q = cc is
+first_placed d j f e at_f at_e = first_settled
 
 second_placed : ArePlaced two_functions second (formulas_in second.formulas) laid_second
-second_placed = record {
-  within = λ d j f e at_f at_e. absurd (none_left d j e (left_there (formulas_in second.formulas) d j f e at_f at_e));
-  settled = λ d j f e at_f at_e. absurd (none_left d j e (left_there (formulas_in second.formulas) d j f e at_f at_e));
-}
+second_placed d j f e at_f at_e = absurd (none_left d j e (left_there (formulas_in second.formulas) d j f e at_f at_e))
 
 as_found : (g u : StoredText) (fs : List FormulaText) → g ≡ u → u.formulas ≡ Some fs → formulas_in g.formulas ≡ fs
 unfolding formulas_in

@@ -24,7 +24,7 @@ use Rattle.completeness.specs.Owed.{AreGridsFew, AreSymbolsFew, AreClaimsNear}
 use Rattle.completeness.specs.Nested.{TakeSplit}
 use Rattle.completeness.specs.Stores.{AreHeld, GroupShown, IsNearRegion}
 use Rattle.completeness.specs.Simple.{SimpleIndices}
-use Rattle.completeness.specs.Placed.{AreSetWithin, ArePlaced, AreLeftsHeld}
+use Rattle.completeness.specs.Placed.{ArePlaced, AreLeftsHeld, AreOwnHeld}
 use Rattle.completeness.specs.Blocked.{is_tailed, IsKept}
 
 -- where the blocks of a split run past the end of its loop, and no guard keeps them within it, the numbers that they reach are of 32 bits
@@ -38,8 +38,8 @@ abbrev pub IsNearOrSimple : StoredText → List FormulaText → List Extent → 
 IsNearOrSimple u fs es = IsNearRegion es ⊎ (SimpleIndices fs × AreEndsShort (loop_numbers u.subject.variables u.placed.cuts es) u.placed.cuts)
 
 -- of each function whose loops are split once, by blocks that need no line of their own, whichever loops are parallel but the inner ones, where what it fetches
--- holds its calls, and each left index that is no variable lies in its dimension: all that the lines of its group owe is shown by the tests of split nests: K2,
--- K4, K5, K6 and K7 are told of none of them
+-- holds its calls, and each left index that is no variable lies in its dimension, as the indices of its own calls there do: all that the lines of its group owe is
+-- shown by the tests of split nests: K2, K4, K5, K6 and K7 are told of none of them
 abbrev pub BlockedGroupsOweShown : Type 0
 BlockedGroupsOweShown =
     (a : Algorithm) (s : Schedule) (l : Lowered) → IsAlgorithm a → IsLegal a s → AreSmall a s → AreRegionsKept a s → AreGroupsMade a s l
@@ -47,7 +47,7 @@ BlockedGroupsOweShown =
     → AreClaimsNear (certificate_of l.certificate)
     → (n : ℕ) (g : Group) → slice_get (plan_of l.plan).groups n ≡ Some g → (u : StoredText) → slice_get (stored_functions a s) n ≡ Some u → IsKept a s n u
     → (fs : List FormulaText) → u.formulas ≡ Some fs → (r : LaidText) → slice_get (laid_functions a (stored_functions a s)) n ≡ Some (Some r)
-    → AreSetWithin u fs r.region → AreLeftsHeld a u fs r.region r.skeleton → AreHeld a (stored_functions a s) n u fs r.skeleton → AreEndsShort (loop_numbers u.subject.variables u.placed.cuts r.region) u.placed.cuts
+    → AreLeftsHeld a u fs r.region r.skeleton → AreOwnHeld a u fs r.region r.skeleton → AreHeld a (stored_functions a s) n u fs r.skeleton → AreEndsShort (loop_numbers u.subject.variables u.placed.cuts r.region) u.placed.cuts
     → GroupShown TakeSplit a (plan_of l.plan) (certificate_of l.certificate) n g
 
 -- so it is, whatever such a function fetches, where its region begins near 0 or its indices are simple

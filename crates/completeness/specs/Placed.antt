@@ -1,18 +1,16 @@
 -- Left indices that are no variables.
-use Rattle.std.specs.Prelude.{◌≡◌, ℕ, true, false, List, Some, slice_get}
+use Rattle.std.specs.Prelude.{◌≡◌, ℕ, zero, suc, ◌≤◌, pos, ◌+ℤ◌, ◌-ℤ◌, ◌≤ℤ◌, true, List, Option, Some, None, slice_get}
 use Rattle.std.specs.List.{AllByRecursion}
 use Rattle.numeric.specs.declared.ty.Ty.TheVariants.{I32}
-use Rattle.tree.specs.Term.{Term}
+use Rattle.tree.specs.Term.{Term, Terms, End, More}
 use Rattle.lin.specs.Regions.{span_inside}
 use Rattle.lin.specs.declared.span.Span1.{Span1}
 use Rattle.bounds.specs.Spans.{range_of}
 use Rattle.meaning.specs.Algorithm.{Algorithm}
 use Rattle.sched.specs.declared.numbers.Extent.{Extent}
-use Rattle.sched.specs.Numbers.{loop_numbers}
-use Rattle.sched.specs.Standing.{overruns}
 use Rattle.sched.specs.Skeleton.{NestText, SkeletonText}
-use Rattle.lower.specs.Stored.{FormulaText, StoredText}
-use Rattle.lower.specs.Around.{AroundText, head_scope, around}
+use Rattle.lower.specs.Stored.{FormulaText, StoredText, calls_in}
+use Rattle.lower.specs.Around.{AroundText, interval_in, head_scope, around}
 use Rattle.lower.specs.Regions.{LaidText, add_all_own, region_of}
 use Rattle.lower.specs.Bounded.{whole}
 
@@ -21,20 +19,32 @@ abbrev pub IsSettled : Algorithm → StoredText → List FormulaText → LaidTex
 IsSettled a g fs l =
     (reach : _) × (wide : _) × (add_all_own a g (head_scope l.skeleton) 0 fs l.skeleton.nests reach ≡ Some wide) × (region_of g.subject.is_root wide ≡ Some l.region)
 
--- of a dimension for which some left index is no variable, no block of a split runs past the last number
-abbrev pub AreSetWithin : StoredText → List FormulaText → List Extent → Type 0
-AreSetWithin g fs region =
-    (d j : ℕ) (f : FormulaText) (e : Term) → slice_get fs d ≡ Some f → slice_get f.at j ≡ Some (Some e)
-    → AllByRecursion (λ c. slice_get g.subject.variables j ≡ Some c.whole → overruns (loop_numbers g.subject.variables g.placed.cuts region) c ≡ false) g.placed.cuts
+-- where there is a left index that is no variable, asking for the region came to an end
+abbrev pub ArePlaced : Algorithm → StoredText → List FormulaText → LaidText → Type 0
+ArePlaced a g fs l = (d j : ℕ) (f : FormulaText) (e : Term) → slice_get fs d ≡ Some f → slice_get f.at j ≡ Some (Some e) → IsSettled a g fs l
 
--- so it is, where there is such an index, and asking for the region came to an end
-pub record ArePlaced (a : Algorithm) (g : StoredText) (fs : List FormulaText) (l : LaidText) : Type 0 where
-  pub within : AreSetWithin g fs l.region
-  pub settled : (d j : ℕ) (f : FormulaText) (e : Term) → slice_get fs d ≡ Some f → slice_get f.at j ≡ Some (Some e) → IsSettled a g fs l
+-- the numbers of an extent, and perhaps more behind them, of 32 bits
+pub record GoesOn (x y : Extent) : Type 0 where
+  pub low : y.low ≡ x.low
+  pub count : x.count ≤ y.count
+  pub last : (y.low +ℤ pos y.count -ℤ pos 1) ≤ℤ pos 2147483647
 
 -- each left index that is no variable is shown to lie in the numbers of its dimension, and to be a number of 32 bits, as the checker tests it
 abbrev pub AreLeftsHeld : Algorithm → StoredText → List FormulaText → List Extent → SkeletonText → Type 0
 AreLeftsHeld a g fs region k =
     (d : ℕ) (f : FormulaText) (w : NestText) (r : AroundText) → slice_get fs d ≡ Some f → slice_get k.nests d ≡ Some w → around a g (head_scope k) w f d ≡ Some r
-    → (j : ℕ) (e : Term) (x : Extent) (s : Span1) → slice_get f.at j ≡ Some (Some e) → slice_get region j ≡ Some x → slice_get r.coordinates j ≡ Some s
-    → (span_inside r.scope s (whole x) ≡ true) × (span_inside r.scope s (range_of I32) ≡ true)
+    → (j : ℕ) (e : Term) (x y : Extent) (s : Span1) → slice_get f.at j ≡ Some (Some e) → slice_get region j ≡ Some x → GoesOn x y → slice_get r.coordinates j ≡ Some s
+    → (span_inside r.scope s (whole y) ≡ true) × (span_inside r.scope s (range_of I32) ≡ true)
+
+-- the index at a place of a call
+abbrev pub index_at : Terms → ℕ → Option Term
+index_at End j = None
+index_at (More e es) zero = Some e
+index_at (More e es) (suc j) = index_at es j
+
+-- at such a place each index of a call of the function itself is shown to lie there, too
+abbrev pub AreOwnHeld : Algorithm → StoredText → List FormulaText → List Extent → SkeletonText → Type 0
+AreOwnHeld a g fs region k =
+    (d : ℕ) (f : FormulaText) (w : NestText) (r : AroundText) → slice_get fs d ≡ Some f → slice_get k.nests d ≡ Some w → around a g (head_scope k) w f d ≡ Some r
+    → AllByRecursion (λ c. c.name ≡ g.subject.name → (j : ℕ) (e t : Term) (x y : Extent) (s : Span1) → slice_get f.at j ≡ Some (Some e) → slice_get region j ≡ Some x → GoesOn x y
+    → index_at c.at j ≡ Some t → interval_in a r t ≡ Some s → span_inside r.scope s (whole y) ≡ true) (calls_in f)

@@ -32,8 +32,8 @@ use Rattle.completeness.specs.Filled.{IsNearOrSimple}
 
 -- each stored function is a root function that is computed at no loop; its loops are split once at most, none with `shift`: with `roundup`, or with `guard`
 -- where the factor divides the loop's numbers, the inner loop stands inside of the outer one, or a piece tells the block; where a left index of its updates is no
--- variable, asking for its region came to an end, and no block runs past the end of that dimension; and the region that is needed of it begins near 0, or each index
--- of its definitions is simple and its blocks reach numbers of 32 bits
+-- variable, asking for its region came to an end; and the region that is needed of it begins near 0, or each index of its definitions is simple and its blocks
+-- reach numbers of 32 bits
 pub record SplitsPlainly (a : Algorithm) (s : Schedule) : Type 0 where
   pub whole : are_whole (stored_functions a s) ≡ true
   pub blocked : (n : ℕ) (u : StoredText) → slice_get (stored_functions a s) n ≡ Some u → IsKept a s n u

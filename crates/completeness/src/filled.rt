@@ -5,11 +5,12 @@ ghost use Rattle.completeness.specs.Filled.{BlockedGroupsOweShown, NearBlockedGr
 /// Of a schedule under which each stored function is a root function that is computed at no loop, the group of each function whose loops are split once, none
 /// with `shift`: with `roundup`, or with `guard` where over its region the factor divides the loop's numbers, the inner loop stands inside of the outer one, or a
 /// piece tells the block, whichever loops are parallel but the inner ones; where what is fetched holds the calls, blocks that run past the end reach numbers of
-/// 32 bits alone, and each left index that is no variable is shown to lie in its dimension, past whose end no block runs: all that its lines owe is shown, where
-/// the tests of nests say yes to plain nests and to split ones, as the checker's do. Neither K2, K4, K5, K6 nor K7 is told of them. Each other coordinate is a
-/// number of 32 bits: the first number of a block, which the grid or an outer loop tells, and an inner loop's symbol. Reduction variables are loops over their
-/// ranges; an update's calls of its own function are of the point where it stores at each place where that sets the variable, and at others of its region. A
-/// dimension that a left index sets has no parallel loop, so each piece has it whole. Left indices may call, too.
+/// 32 bits alone, and each left index that is no variable, and each index of a call of the function itself at its place, is shown to lie in its dimension, also
+/// where this has more numbers behind it: all that its lines owe is shown, where the tests of nests say yes to plain nests and to split ones, as the checker's
+/// do. Neither K2, K4, K5, K6 nor K7 is told of them. Each other coordinate is a number of 32 bits: the first number of a block, which the grid or an outer loop
+/// tells, and an inner loop's symbol. Reduction variables are loops over their ranges; an update's calls of its own function are of the point where it stores, at
+/// each place where that sets the variable. A dimension that a left index sets has no parallel loop, so each piece has it whole, with what its blocks reach
+/// behind it. Left indices may call, too.
 pub fn blocked_groups_owe_shown()
     ensures { BlockedGroupsOweShown }
 {}
