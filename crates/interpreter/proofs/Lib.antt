@@ -48,3 +48,4 @@ pub mod SameRegisters
 pub mod EachWord
 pub mod Words
 pub mod Casts
+pub mod GivenRows

@@ -36,7 +36,7 @@ pub record IsNotedFor (c : Certificate) (number : ℕ) (g : Group) (old new : Ne
 -- a state with all the memory that was noted, and for so many numbers
 pub record IsMadeFor (needs : Needs) (most : ℕ) (x : State) : Type 0 where
   pub limits : All (λ l. HasMemoryFor (limits_of x.memory) l.buffer l.places) needs.limits.items
-  pub given : most ≤ x.given.capacity
+  pub given : most ≤ x.given.room
   pub numbers : x.numbers.room ≡ needs.coordinates
   pub point : x.point.room ≡ needs.coordinates
   pub stack : x.stack.room ≡ needs.indices
@@ -58,7 +58,7 @@ IsScratchForAll x c gs = (n : ℕ) (g : Group) → slice_get gs n ≡ Some g →
 
 -- for how many numbers it has room
 abbrev pub room_of : Scratch → ℕ
-room_of x = x.state.given.capacity
+room_of x = x.state.given.room
 
 -- a scratch after a run: it suffices for what it did before
 pub record IsAgain (old new : Scratch) : Type 0 where
@@ -67,7 +67,7 @@ pub record IsAgain (old new : Scratch) : Type 0 where
   pub grid : new.symbols.grid_room ≡ old.symbols.grid_room
   pub symbols : new.symbols.room ≡ old.symbols.room
   pub space : space_of new.state ≡ space_of old.state
-  pub given : new.state.given.capacity ≡ old.state.given.capacity
+  pub given : new.state.given.room ≡ old.state.given.room
 
 -- How the run of a piece ends in memory for so many numbers: it gives these, or has a fault, or gives more.
 abbrev pub GivesIn : {A : Type 0} → ℕ → Result A Stop → List ℤ → Option (List ℤ) → Type 0

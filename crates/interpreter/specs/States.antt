@@ -32,8 +32,8 @@ space_of x = record { limits = limits_of x.memory; numbers = x.numbers.room; poi
 -- the memory is as much, and for as many numbers that are given
 pub record IsAsLarge (old new : State) : Type 0 where
   pub space : space_of new ≡ space_of old
-  pub given : new.given.capacity ≡ old.given.capacity
+  pub given : new.given.room ≡ old.given.room
 
 -- the place of a point is set, and nothing else; a fault where it has none
 abbrev pub SetsOrFaults : {A : Type 0} → Result A Stop → State → State → ℕ → List ℤ → Value → Type 0
-SetsOrFaults r old new b p v = EndsIn old.given.capacity (λ _. progress_of new) r (with (write (memory_of old.memory) b p v) (λ m. Some (record { memory = m; given = old.given.items })))
+SetsOrFaults r old new b p v = EndsIn old.given.room (λ _. progress_of new) r (with (write (memory_of old.memory) b p v) (λ m. Some (record { memory = m; given = old.given.items })))

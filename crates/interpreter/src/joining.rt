@@ -244,7 +244,7 @@ pub(crate) fn run_joined<'a>(
     requires stack { indices_of_all line.now.coordinates.now + indices_in (term_of line.now.value.now) ≤ state.old.stack.room }
     ensures symbols { OnOk result (symbols.new ≡ symbols.old) }
     ensures large { OnOk result (IsAsLarge state.old state.new) }
-    ensures run { (definition : ℕ) (cell : List ℕ → List ℤ → ValueFound) → EndsIn state.old.given.capacity (λ _. progress_of state.new) result (steps (around piece.now cell) (flat_map (store_at piece.now line.now.buffer line.now.coordinates.now (term_of line.now.value.now) (in_first outer (symbols_of symbols.old)) both.symbol both.low definition) (between both.low (end_in (in_first outer (symbols_of symbols.old)) both.high ends.entry.form))) (progress_of state.old)) }
+    ensures run { (definition : ℕ) (cell : List ℕ → List ℤ → ValueFound) → EndsIn state.old.given.room (λ _. progress_of state.new) result (steps (around piece.now cell) (flat_map (store_at piece.now line.now.buffer line.now.coordinates.now (term_of line.now.value.now) (in_first outer (symbols_of symbols.old)) both.symbol both.low definition) (between both.low (end_in (in_first outer (symbols_of symbols.old)) both.high ends.entry.form))) (progress_of state.old)) }
 {
     let mark = symbols.bound_count();
     symbols.bind(turn(outer, outer.low));

@@ -21,17 +21,15 @@ ghost use Rattle.std.specs.Prelude.{flat_map};
 
 use crate::buffers::{Buffers, Held, Spot, held_inside, held_window};
 use crate::cells::Cells;
-use crate::evaluation::{
-    Signed8, Signed16, Signed32, Unsigned8, Unsigned16, Unsigned32, Width, word_number,
-};
+use crate::evaluation::{Signed8, Signed16, Signed32, Unsigned8, Unsigned16, Unsigned32, Width};
 use crate::piece::Piece;
+use crate::row::Row;
 use crate::scanlines::{distance, row_type};
 use crate::state::State;
 use crate::symbols::Symbols;
 use crate::visits::{Numbers, Visit, Walk, claim_buffer, is_in_region, is_in_span};
 use lin::Span1;
 use numeric::Ty;
-use smallvec::SmallVec;
 use tree::Value;
 
 /// Whether all these numbers lie in a span.
@@ -101,44 +99,43 @@ fn places_of<'m>(
 }
 
 /// Takes the numbers that the first so many places hold, as long as each holds one: how many it took.
-fn push_each(held: Held<'_>, count: usize, given: &mut SmallVec<i64, 4>) -> usize
+fn push_each(held: Held<'_>, count: usize, given: &mut Row) -> usize
     requires marks { count ≤ length held.marks.now }
     requires words { length held.words.now ≡ length held.marks.now }
-    requires room { length given.old.items + count ≤ given.old.capacity }
+    requires room { length given.old.items + count ≤ given.old.room }
     ensures count { result ≤ count }
     ensures given { given_from (places_held held.entry) given.old.items result ≡ Some given.new.items }
-    ensures capacity { given.new.capacity ≡ given.old.capacity }
+    ensures room { given.new.room ≡ given.old.room }
 {
     for turn in 0..count {
         let Some(value) = held_inside(held.marks, held.words, held.wides, turn) else {
             return turn;
         };
-        given.push_reserved(value.number);
+        given.push(value.number);
     }
     count
 }
 
 /// Takes the numbers that the first so many places hold, where these are set to values of the type and their numbers stand in words.
 #[inline(always)]
-fn push_words<W: Width>(held: Held<'_>, count: usize, given: &mut SmallVec<i64, 4>)
+fn push_words<W: Width>(held: Held<'_>, count: usize, given: &mut Row)
     requires marked { (k : ℕ) → k < count → slice_get held.marks.now k ≡ Some (narrow_mark W.ty) }
     requires words { count ≤ length held.words.now }
-    requires room { length given.old.items + count ≤ given.old.capacity }
+    requires room { length given.old.items + count ≤ given.old.room }
     ensures given { given_from (places_held held.entry) given.old.items count ≡ Some given.new.items }
-    ensures capacity { given.new.capacity ≡ given.old.capacity }
+    ensures room { given.new.room ≡ given.old.room }
 {
-    for turn in 0..count {
-        given.push_reserved(word_number::<W>(held.words[turn]).value);
-    }
+    let (words, _) = held.words.split_at(count);
+    given.append_words::<W>(words);
 }
 
 /// The same, by a loop of the type's own.
-fn push_words_of(ty: Ty, held: Held<'_>, count: usize, given: &mut SmallVec<i64, 4>)
+fn push_words_of(ty: Ty, held: Held<'_>, count: usize, given: &mut Row)
     requires marked { (k : ℕ) → k < count → slice_get held.marks.now k ≡ Some (narrow_mark ty) }
     requires words { count ≤ length held.words.now }
-    requires room { length given.old.items + count ≤ given.old.capacity }
+    requires room { length given.old.items + count ≤ given.old.room }
     ensures given { given_from (places_held held.entry) given.old.items count ≡ Some given.new.items }
-    ensures capacity { given.new.capacity ≡ given.old.capacity }
+    ensures room { given.new.room ≡ given.old.room }
 {
     match ty {
         Ty::U8 => push_words::<Unsigned8>(held, count, given),
@@ -151,13 +148,13 @@ fn push_words_of(ty: Ty, held: Held<'_>, count: usize, given: &mut SmallVec<i64,
 }
 
 /// Takes the numbers that places hold, from the first on, as long as each holds one and there is room: how many it took.
-fn push_held(held: Held<'_>, given: &mut SmallVec<i64, 4>) -> usize
+fn push_held(held: Held<'_>, given: &mut Row) -> usize
     requires { length held.words.now ≡ length held.marks.now }
     ensures count { result ≤ length held.entry.marks.now }
     ensures given { given_from (places_held held.entry) given.old.items result ≡ Some given.new.items }
-    ensures capacity { given.new.capacity ≡ given.old.capacity }
+    ensures room { given.new.room ≡ given.old.room }
 {
-    let count = held.marks.len().min(given.capacity() - given.len());
+    let count = held.marks.len().min(given.free());
     match row_type(held.marks) {
         Some(ty) => {
             push_words_of(ty, held, count, given);

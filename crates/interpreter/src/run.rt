@@ -63,7 +63,7 @@ fn fetch<'a, C: Cells>(
     requires narrow { RegionIsNarrow (symbols_of symbols.now) region.now }
     requires room { length region.now ≤ state.old.point.room }
     ensures large { OnOk result (IsAsLarge state.old state.new) }
-    ensures run { EndsIn state.old.given.capacity (λ _. progress_of state.new) result (steps (around piece.now (C.cell cells.now)) (actions (setting piece.now) (Fetch buffer group region.now) (symbols_of symbols.now)) (progress_of state.old)) }
+    ensures run { EndsIn state.old.given.room (λ _. progress_of state.new) result (steps (around piece.now (C.cell cells.now)) (actions (setting piece.now) (Fetch buffer group region.now) (symbols_of symbols.now)) (progress_of state.old)) }
 {
     let walk = Walk {
         piece,
@@ -100,7 +100,7 @@ fn publish<'a, C: Cells>(
     requires narrow { OwnIsSmall piece.now (symbols_of symbols.now) }
     requires room { own_of piece.now ≤ state.old.point.room }
     ensures large { OnOk result (IsAsLarge state.old state.new) }
-    ensures run { EndsIn state.old.given.capacity (λ _. progress_of state.new) result (steps (around piece.now (C.cell cells.now)) (actions (setting piece.now) (Publish claim) (symbols_of symbols.now)) (progress_of state.old)) }
+    ensures run { EndsIn state.old.given.room (λ _. progress_of state.new) result (steps (around piece.now (C.cell cells.now)) (actions (setting piece.now) (Publish claim) (symbols_of symbols.now)) (progress_of state.old)) }
 {
     let Some(region) = own_region(&piece.cert.own, piece.number) else {
         return Ok(());
@@ -163,7 +163,7 @@ fn run_turns<'a, C: Cells>(
     requires narrow { (z : ℤ) → Contains (between turns.low turns.high) z → StatementIsNarrow (OwnIsSmall piece.now) (statement_of body.now) (bind (symbols_of symbols.old) turns.symbol z (int_le z turns.low)) }
     requires room { length symbols.old.bound < symbols.old.room }
     requires fits { StatementFits (own_of piece.now) (space_of state.old) symbols.old.room (statement_of body.now) (length symbols.old.bound + 1) }
-    ensures run { EndsIn state.old.given.capacity (λ _. progress_of state.new) result (steps (around piece.now (C.cell cells.now)) (flat_map (λ z. actions (setting piece.now) (statement_of body.now) (bind (symbols_of symbols.old) turns.symbol z (int_le z turns.low))) (between turns.low turns.high)) (progress_of state.old)) }
+    ensures run { EndsIn state.old.given.room (λ _. progress_of state.new) result (steps (around piece.now (C.cell cells.now)) (flat_map (λ z. actions (setting piece.now) (statement_of body.now) (bind (symbols_of symbols.old) turns.symbol z (int_le z turns.low))) (between turns.low turns.high)) (progress_of state.old)) }
     ensures symbols { OnOk result (symbols.new ≡ symbols.old) }
     ensures large { OnOk result (IsAsLarge state.old state.new) }
 {
@@ -197,7 +197,7 @@ fn run_block<'a, C: Cells>(
     requires ready { IsReady piece.now }
     requires narrow { BlockIsNarrow (OwnIsSmall piece.now) (block (list_statements all.now)) (symbols_of symbols.old) }
     requires fits { BlockFits (own_of piece.now) (space_of state.old) symbols.old.room (block (list_statements all.now)) (length symbols.old.bound) }
-    ensures run { EndsIn state.old.given.capacity (λ _. progress_of state.new) result (steps (around piece.now (C.cell cells.now)) (block_actions (setting piece.now) (block (list_statements all.now)) (symbols_of symbols.old)) (progress_of state.old)) }
+    ensures run { EndsIn state.old.given.room (λ _. progress_of state.new) result (steps (around piece.now (C.cell cells.now)) (block_actions (setting piece.now) (block (list_statements all.now)) (symbols_of symbols.old)) (progress_of state.old)) }
     ensures symbols { OnOk result (symbols.new ≡ symbols.old) }
     ensures large { OnOk result (IsAsLarge state.old state.new) }
 {
@@ -223,7 +223,7 @@ fn run_line<'a, C: Cells>(
     requires narrow { StatementIsNarrow (OwnIsSmall piece.now) (statement_of stmt.now) (symbols_of symbols.old) }
     requires fits { StatementFits (own_of piece.now) (space_of state.old) symbols.old.room (statement_of stmt.now) (length symbols.old.bound) }
     requires line { IsLine (statement_of stmt.now) }
-    ensures run { EndsIn state.old.given.capacity (λ _. progress_of state.new) result (steps (around piece.now (C.cell cells.now)) (actions (setting piece.now) (statement_of stmt.now) (symbols_of symbols.old)) (progress_of state.old)) }
+    ensures run { EndsIn state.old.given.room (λ _. progress_of state.new) result (steps (around piece.now (C.cell cells.now)) (actions (setting piece.now) (statement_of stmt.now) (symbols_of symbols.old)) (progress_of state.old)) }
     ensures symbols { OnOk result (symbols.new ≡ symbols.old) }
     ensures large { OnOk result (IsAsLarge state.old state.new) }
 {
@@ -262,7 +262,7 @@ fn run<'a, C: Cells>(
     requires ready { IsReady piece.now }
     requires narrow { StatementIsNarrow (OwnIsSmall piece.now) (statement_of stmt.now) (symbols_of symbols.old) }
     requires fits { StatementFits (own_of piece.now) (space_of state.old) symbols.old.room (statement_of stmt.now) (length symbols.old.bound) }
-    ensures run { EndsIn state.old.given.capacity (λ _. progress_of state.new) result (steps (around piece.now (C.cell cells.now)) (actions (setting piece.now) (statement_of stmt.now) (symbols_of symbols.old)) (progress_of state.old)) }
+    ensures run { EndsIn state.old.given.room (λ _. progress_of state.new) result (steps (around piece.now (C.cell cells.now)) (actions (setting piece.now) (statement_of stmt.now) (symbols_of symbols.old)) (progress_of state.old)) }
     ensures symbols { OnOk result (symbols.new ≡ symbols.old) }
     ensures large { OnOk result (IsAsLarge state.old state.new) }
 {
@@ -324,7 +324,7 @@ fn run_group<'a, C: Cells>(
     requires narrow { MatchOption (slice_get (plan_of plan.now).groups number) ⊥ (λ g. PieceIsNarrow (certificate_of cert.now) number g (grid_point g.grid rank)) }
     requires memory { MatchOption (slice_get (plan_of plan.now).groups number) ⊥ (Suffices sizes.now constants.now symbols.old (space_of state.old) (certificate_of cert.now) number) }
     requires inside { MatchOption (slice_get (plan_of plan.now).groups number) ⊥ (λ g. rank < group_pieces g) }
-    ensures gives { GivesIn state.old.given.capacity result state.new.given.items (rank_gives (plan_of plan.now) (certificate_of cert.now) (image_of image.now).samples (C.cell cells.now) number rank) }
+    ensures gives { GivesIn state.old.given.room result state.new.given.items (rank_gives (plan_of plan.now) (certificate_of cert.now) (image_of image.now).samples (C.cell cells.now) number rank) }
     ensures symbols { OnOk result ((symbols.new.grid_room ≡ symbols.old.grid_room) × (symbols.new.room ≡ symbols.old.room)) }
     ensures large { OnOk result (IsAsLarge state.old state.new) }
 {

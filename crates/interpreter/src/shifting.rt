@@ -296,7 +296,7 @@ fn run_named<'a>(
     requires stack { indices_of_all line.now.coordinates.now + indices_in (term_of line.now.value.now) ≤ state.old.stack.room }
     ensures symbols { OnOk result (symbols.new ≡ symbols.old) }
     ensures large { OnOk result (IsAsLarge state.old state.new) }
-    ensures run { (definition : ℕ) (cell : List ℕ → List ℤ → ValueFound) → EndsIn state.old.given.capacity (λ _. progress_of state.new) result (steps (around piece.now cell) (flat_map (store_at piece.now line.now.buffer line.now.coordinates.now (term_of line.now.value.now) (in_name name.now (in_first outer (symbols_of symbols.old))) turns.symbol turns.low definition) (between turns.low turns.high)) (progress_of state.old)) }
+    ensures run { (definition : ℕ) (cell : List ℕ → List ℤ → ValueFound) → EndsIn state.old.given.room (λ _. progress_of state.new) result (steps (around piece.now cell) (flat_map (store_at piece.now line.now.buffer line.now.coordinates.now (term_of line.now.value.now) (in_name name.now (in_first outer (symbols_of symbols.old))) turns.symbol turns.low definition) (between turns.low turns.high)) (progress_of state.old)) }
 {
     let mark = symbols.bound_count();
     symbols.bind(turn(outer, outer.low));
@@ -327,7 +327,7 @@ pub(crate) fn run_alike<'a>(
     ensures symbols { OnOk result (symbols.new ≡ symbols.old) }
     ensures large { OnOk result (IsAsLarge state.old state.new) }
     ensures next { IfOk result (λ z. outer.low ≤ℤ z) }
-    ensures run { (cell : List ℕ → List ℤ → ValueFound) → GoesOn state.old.given.capacity (progress_of state.new) (λ z. steps (around piece.now cell) (flat_map (λ w. actions (setting piece.now) (statement_of body.now) (in_turn outer w (symbols_of symbols.old))) (between z outer.high))) result (steps (around piece.now cell) (flat_map (λ w. actions (setting piece.now) (statement_of body.now) (in_turn outer w (symbols_of symbols.old))) (between outer.low outer.high)) (progress_of state.old)) }
+    ensures run { (cell : List ℕ → List ℤ → ValueFound) → GoesOn state.old.given.room (progress_of state.new) (λ z. steps (around piece.now cell) (flat_map (λ w. actions (setting piece.now) (statement_of body.now) (in_turn outer w (symbols_of symbols.old))) (between z outer.high))) result (steps (around piece.now cell) (flat_map (λ w. actions (setting piece.now) (statement_of body.now) (in_turn outer w (symbols_of symbols.old))) (between outer.low outer.high)) (progress_of state.old)) }
 {
     let Some(both) = named_loop(body) else {
         return Ok(outer.low);

@@ -8,7 +8,6 @@ use crate::evaluation::Number;
 use crate::needs::Needs;
 use crate::registers::{LONGEST_RUN, LONGEST_UPDATE};
 use crate::row::Row;
-use smallvec::SmallVec;
 use std::alloc::{AllocError, Global};
 
 /// How many registers there are, for the parts of an expression.
@@ -19,7 +18,7 @@ const PARTS: usize = 16;
 #[derive(Drop)]
 pub(crate) struct State {
     pub memory: Buffers,
-    pub given: SmallVec<i64, 4>,
+    pub given: Row,
     /// The numbers of a store's coordinates, as far as they are known.
     pub numbers: Row,
     /// The point that is read or written.
@@ -53,7 +52,7 @@ impl State {
     {
         Ok(State {
             memory: Buffers::new(alloc, &needs.limits)?,
-            given: SmallVec::with_capacity(alloc, given)?,
+            given: Row::new(alloc, given)?,
             numbers: Row::new(alloc, needs.coordinates)?,
             point: Row::new(alloc, needs.coordinates)?,
             stack: Row::new(alloc, needs.indices)?,

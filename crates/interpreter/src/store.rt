@@ -174,7 +174,7 @@ pub(crate) fn store<'a>(
     requires point { length coordinates.now ≤ state.old.point.room }
     requires stack { indices_of_all coordinates.now + indices_in (term_of value.now) ≤ state.old.stack.room }
     ensures large { OnOk result (IsAsLarge state.old state.new) }
-    ensures store { (definition : ℕ) (cell : List ℕ → List ℤ → ValueFound) → EndsIn state.old.given.capacity (λ _. progress_of state.new) result (steps (around piece.now cell) (stored (setting piece.now) buffer definition (map coordinate_of coordinates.now) (term_of value.now) (symbols_of symbols.now) ∷ []) (progress_of state.old)) }
+    ensures store { (definition : ℕ) (cell : List ℕ → List ℤ → ValueFound) → EndsIn state.old.given.room (λ _. progress_of state.new) result (steps (around piece.now cell) (stored (setting piece.now) buffer definition (map coordinate_of coordinates.now) (term_of value.now) (symbols_of symbols.now) ∷ []) (progress_of state.old)) }
 {
     let count = size_in(piece.sizes, buffer);
     let place = of_function(coordinates, count);

@@ -381,7 +381,7 @@ pub(crate) fn store_turns<'a>(
     requires finds { FindsUpdate piece.now line.now.buffer (size_in piece.now.sizes.now line.now.buffer) line.now.coordinates.now (term_of line.now.value.now) (symbols_of symbols.now) part.turns.symbol part.turns.low part.low (memory_of state.old.memory) part.count update state.old.registers.items }
     requires stands { (k : ℕ) → k < part.count → UpdateStands state.old.memory line.now.buffer (size_in piece.now.sizes.now line.now.buffer) part.count places.now.position update state.old.registers.items places.now.point.now places.now.left.now places.now.right.now k }
     ensures large { OnOk result (IsAsLarge state.old state.new) }
-    ensures run { (definition : ℕ) (cell : List ℕ → List ℤ → ValueFound) → EndsIn state.old.given.capacity (λ _. progress_of state.new) result (steps (around piece.now cell) (flat_map (store_at piece.now line.now.buffer line.now.coordinates.now (term_of line.now.value.now) (symbols_of symbols.now) part.turns.symbol part.turns.low definition) (rising part.low part.count)) (progress_of state.old)) }
+    ensures run { (definition : ℕ) (cell : List ℕ → List ℤ → ValueFound) → EndsIn state.old.given.room (λ _. progress_of state.new) result (steps (around piece.now cell) (flat_map (store_at piece.now line.now.buffer line.now.coordinates.now (term_of line.now.value.now) (symbols_of symbols.now) part.turns.symbol part.turns.low definition) (rising part.low part.count)) (progress_of state.old)) }
 {
     let target = Target {
         buffer: line.buffer,

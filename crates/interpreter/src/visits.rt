@@ -119,16 +119,16 @@ pub(crate) fn set(state: &mut State, buffer: u64, value: Value) -> Result<(), St
 fn give(piece: &Piece<'_>, claim: u64, state: &mut State) -> Result<(), Stop>
     ensures large { OnOk result (IsAsLarge state.old state.new) }
     ensures point { OnOk result (state.new.point ≡ state.old.point) }
-    ensures give { (cell : List ℕ → List ℤ → ValueFound) → EndsIn state.old.given.capacity (λ _. progress_of state.new) result (steps (around piece.now cell) (Give claim state.old.point.items ∷ []) (progress_of state.old)) }
+    ensures give { (cell : List ℕ → List ℤ → ValueFound) → EndsIn state.old.given.room (λ _. progress_of state.new) result (steps (around piece.now cell) (Give claim state.old.point.items ∷ []) (progress_of state.old)) }
 {
     let buffer = claim_buffer(&piece.cert.claims, claim);
     let Some(value) = state.memory.read(buffer, state.point.as_slice()) else {
         return Err(Stop::Fault);
     };
-    if state.given.len() == state.given.capacity() {
+    if state.given.free() == 0 {
         return Err(Stop::Full);
     }
-    state.given.push_reserved(value.number);
+    state.given.push(value.number);
     Ok(())
 }
 
@@ -137,7 +137,7 @@ fn visit_point<C: Cells>(walk: &Walk<'_, '_>, cells: &C, state: &mut State) -> R
     requires { VisitIsNarrow walk.now.piece.now walk.now.visit }
     ensures large { OnOk result (IsAsLarge state.old state.new) }
     ensures point { OnOk result (state.new.point ≡ state.old.point) }
-    ensures run { EndsIn state.old.given.capacity (λ _. progress_of state.new) result (steps (around walk.now.piece.now (C.cell cells.now)) (at_point walk.now.piece.now walk.now.visit state.old.point.items) (progress_of state.old)) }
+    ensures run { EndsIn state.old.given.room (λ _. progress_of state.new) result (steps (around walk.now.piece.now (C.cell cells.now)) (at_point walk.now.piece.now walk.now.visit state.old.point.items) (progress_of state.old)) }
 {
     match walk.visit {
         Visit::Fetch { buffer, function } => {
@@ -176,7 +176,7 @@ fn visit_numbers<C: Cells>(
     requires long { length region.now < length state.old.point.items }
     ensures large { OnOk result (IsAsLarge state.old state.new) }
     ensures kept { OnOk result (KeepsFrom (length region.now + 1) state.old.point state.new.point) }
-    ensures run { EndsIn state.old.given.capacity (λ _. progress_of state.new) result (steps (around walk.now.piece.now (C.cell cells.now)) (flat_map (λ z. flat_map (at_point walk.now.piece.now walk.now.visit) (extended (symbols_of walk.now.symbols.now) region.now (z ∷ drop (length region.now + 1) state.old.point.items))) (between numbers.low numbers.high)) (progress_of state.old)) }
+    ensures run { EndsIn state.old.given.room (λ _. progress_of state.new) result (steps (around walk.now.piece.now (C.cell cells.now)) (flat_map (λ z. flat_map (at_point walk.now.piece.now walk.now.visit) (extended (symbols_of walk.now.symbols.now) region.now (z ∷ drop (length region.now + 1) state.old.point.items))) (between numbers.low numbers.high)) (progress_of state.old)) }
 {
     for number in numbers.low..=numbers.high {
         state.point.set(region.len(), number);
@@ -198,7 +198,7 @@ fn visit_region<C: Cells>(
     requires long { length region.now ≤ length state.old.point.items }
     ensures large { OnOk result (IsAsLarge state.old state.new) }
     ensures kept { OnOk result (KeepsFrom (length region.now) state.old.point state.new.point) }
-    ensures run { EndsIn state.old.given.capacity (λ _. progress_of state.new) result (steps (around walk.now.piece.now (C.cell cells.now)) (flat_map (at_point walk.now.piece.now walk.now.visit) (extended (symbols_of walk.now.symbols.now) region.now (drop (length region.now) state.old.point.items))) (progress_of state.old)) }
+    ensures run { EndsIn state.old.given.room (λ _. progress_of state.new) result (steps (around walk.now.piece.now (C.cell cells.now)) (flat_map (at_point walk.now.piece.now walk.now.visit) (extended (symbols_of walk.now.symbols.now) region.now (drop (length region.now) state.old.point.items))) (progress_of state.old)) }
 {
     match region {
         [] => visit_point(walk, cells, state),
@@ -224,7 +224,7 @@ pub(crate) fn visit_points<C: Cells>(
     requires visit { VisitIsNarrow walk.now.piece.now walk.now.visit }
     requires room { length region.now ≤ state.old.point.room }
     ensures large { OnOk result (IsAsLarge state.old state.new) }
-    ensures run { EndsIn state.old.given.capacity (λ _. progress_of state.new) result (steps (around walk.now.piece.now (C.cell cells.now)) (flat_map (at_point walk.now.piece.now walk.now.visit) (extended (symbols_of walk.now.symbols.now) region.now [])) (progress_of state.old)) }
+    ensures run { EndsIn state.old.given.room (λ _. progress_of state.new) result (steps (around walk.now.piece.now (C.cell cells.now)) (flat_map (at_point walk.now.piece.now walk.now.visit) (extended (symbols_of walk.now.symbols.now) region.now [])) (progress_of state.old)) }
 {
     state.point.begin(region.len());
     visit_region(walk, cells, region, state)

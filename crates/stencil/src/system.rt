@@ -22,6 +22,9 @@ const BEGINNING: usize = 255 - ENDING;
 // How many bytes a letter has at most.
 const LETTER: usize = 4;
 
+// The room for a file of so many bytes is not taken before they come.
+const MOST_AT_ONCE: u64 = 1 << 26;
+
 /// The files of the system, by their paths; `-` is standard input where a file is read, and standard output where one is
 /// written.
 #[derive(Drop)]
@@ -89,13 +92,25 @@ fn file_error(error: &Error) -> FileError {
     }
 }
 
+/// Room for the bytes that a file says it has, and one more, by which its end is found. Where there is no such room, or the file says
+/// nothing, its bytes are read all the same: the list then grows as they come.
+fn make_room(bytes: &mut Vec<u8>, file: &fs::File) {
+    if let Ok(found) = file.metadata() {
+        if found.len() < MOST_AT_ONCE {
+            let _ = bytes.reserve(found.len() as usize + 1);
+        }
+    }
+}
+
 /// The bytes of a file or of standard input.
 fn read(rt: &HostRuntime, name: &str) -> io::Result<Vec<u8>> {
     let mut bytes = Vec::new(rt.alloc());
     if name == STREAM {
         rt.reader().read_to_end(&mut bytes)?;
     } else {
-        fs::open(rt, name)?.read_to_end(&mut bytes)?;
+        let mut file = fs::open(rt, name)?;
+        make_room(&mut bytes, &file);
+        file.read_to_end(&mut bytes)?;
     }
     Ok(bytes)
 }

@@ -83,5 +83,5 @@ returns-clause-run c = λ d cell.
     let high : to_z w64 (of_z w64 c.end_in-high.result) ≡ end_in (in_first t (symbols_of c.args.symbols.now)) both.high c.args.ends.form =
     to_z-of_z w64 c.end_in-high.result high_fits ∙ c.end_in-high.ensures ∙ (λ i. end_in (now i) (to_z-of_z w64 both.high both_fits i) c.args.ends.form) in
     let stores : Symbols → ℤ → ℤ → List Action = λ s l h. flat_map (store_at x line.buffer line.coordinates.now (term_of line.value.now) s both.symbol l d) (between l h) in
-    let Ends : List Action → Type 0 = λ l. EndsIn c.args.state.now.given.capacity (λ (_ : Unit {0}). progress_of c.run_stores-ended.new.state) c.run_stores-ended.result (steps (around x cell) l p) in
+    let Ends : List Action → Type 0 = λ l. EndsIn c.args.state.now.given.room (λ (_ : Unit {0}). progress_of c.run_stores-ended.new.state) c.run_stores-ended.result (steps (around x cell) l p) in
     subst Ends (λ i. stores (now i) (low i) (high i)) (c.run_stores-ended.ensures.run d cell)

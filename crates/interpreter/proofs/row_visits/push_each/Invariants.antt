@@ -6,6 +6,6 @@ use Rattle.interpreter.proofs.row_visits.push_each.Given as goal
 abbrev pub invariant-loop-turn : goal.invariant-loop-turn
 invariant-loop-turn l = record {
   given : given_from (places_held l.held) l.initial.given.items l.turn ≡ Some l.given.items;
-  capacity : l.given.capacity ≡ l.initial.given.capacity;
+  room : l.given.room ≡ l.initial.given.room;
   long : length l.given.items ≡ length l.initial.given.items + l.turn;
 }

@@ -52,7 +52,7 @@ run-returns-in-Seq-clause-run g t c =
     let s = symbols_of c.args.symbols.now in
     let e : statement_of c.args.stmt.now ≡ Seq (block (list_statements c.deref.result.now)) =
     ap statement_of c.in-Seq.is ∙ statement_of-seq c.in-Seq.all ∙ ap (λ (l : List Stmt). Seq (block (list_statements l))) (sym c.deref.ensures.value) in
-    subst (λ (a : Statement). EndsIn c.args.state.now.given.capacity (λ _. progress_of c.run_block.new.state) c.run_block.result (steps A (actions (setting x) a s) (progress_of c.args.state.now))) (sym e) c.run_block.ensures.run
+    subst (λ (a : Statement). EndsIn c.args.state.now.given.room (λ _. progress_of c.run_block.new.state) c.run_block.result (steps A (actions (setting x) a s) (progress_of c.args.state.now))) (sym e) c.run_block.ensures.run
 
 pub run_block-returns-in_err-run-clause-run : goal.run_block-returns-in_err-run-clause-run
 run_block-returns-in_err-run-clause-run g t c =
@@ -68,9 +68,9 @@ run_block-returns-in_err-run-clause-run g t c =
     let e = err_from_is_err_and c.from_residual.result c.from_residual.ensures.1 in
     let o : Option Progress = steps A (actions S (statement_of a) s) (progress_of l.state) in
     let new : Progress = progress_of c.run.new.state in
-    let ended : EndsIn c.args.state.now.given.capacity (λ (_ : Unit {0}). new) (Err c.in_err-run.field-0.0) o =
+    let ended : EndsIn c.args.state.now.given.room (λ (_ : Unit {0}). new) (Err c.in_err-run.field-0.0) o =
     subst (λ (n : ℕ). EndsIn n (λ (_ : Unit {0}). new) (Err c.in_err-run.field-0.0) o) l.invariant.large.given c.in_err-run.ensures.run in
-    rw (e.1, e.2) (stops_in A c.args.state.now.given.capacity new new c.in_err-run.field-0.0 o (block_actions S (from all (i + 1)) (after (statement_of a) s)) whole
+    rw (e.1, e.2) (stops_in A c.args.state.now.given.room new new c.in_err-run.field-0.0 o (block_actions S (from all (i + 1)) (after (statement_of a) s)) whole
     (block_next A S all i a s (progress_of l.state) whole c.loop-stmt-test.true c.stmt-item.is l.invariant.run) ended)
 
 pub run_block-loop-stmt-preserved : goal.run_block-loop-stmt-preserved
@@ -154,9 +154,9 @@ run_turns-returns-in_err-run-clause-run g t c =
     let e = err_from_is_err_and c.from_residual-in_err-run.result c.from_residual-in_err-run.ensures.1 in
     let o : Option Progress = steps A (actions S body (symbols_of c.bind.new.self)) p in
     let new : Progress = progress_of c.run.new.state in
-    let ended : EndsIn c.args.state.now.given.capacity (λ (_ : Unit {0}). new) (Err c.in_err-run.field-0.0) o =
+    let ended : EndsIn c.args.state.now.given.room (λ (_ : Unit {0}). new) (Err c.in_err-run.field-0.0) o =
     subst (λ (n : ℕ). EndsIn n (λ (_ : Unit {0}). new) (Err c.in_err-run.field-0.0) o) l.invariant.large.given c.in_err-run.ensures.run in
-    rw (e.1, e.2) (stops_in A c.args.state.now.given.capacity new new c.in_err-run.field-0.0 o (flat_map f (between (z +ℤ pos 1) turns.high)) whole
+    rw (e.1, e.2) (stops_in A c.args.state.now.given.room new new c.in_err-run.field-0.0 o (flat_map f (between (z +ℤ pos 1) turns.high)) whole
     (next ∙ ap (λ (y : Symbols). with (steps A (actions S body y) p) go) (sym now)) ended)
 
 pub run_turns-loop-value-preserved : goal.run_turns-loop-value-preserved
@@ -246,7 +246,7 @@ run-returns-in-For-clause-run g t c =
     let p = progress_of c.args.state.now in
     let same : c.deref-in-For.result.now ≡ c.in-For.body.value = search rules in
     let body = statement_of c.deref-in-For.result.now in
-    let P : Option Progress → Type 0 = λ o. EndsIn c.args.state.now.given.capacity (λ (_ : Unit {0}). progress_of c.run_turns.new.state) c.run_turns.result o in
+    let P : Option Progress → Type 0 = λ o. EndsIn c.args.state.now.given.room (λ (_ : Unit {0}). progress_of c.run_turns.new.state) c.run_turns.result o in
     let turned : Turns → Option Progress = λ r. steps A (flat_map (λ z. actions (setting x) body (bind s r.symbol z (int_le z r.low))) (between r.low r.high)) p in
     let low = largest s c.in-For.span.lower in
     let Q : Stmt → Type 0 = λ b. P (steps A (flat_map (λ z. actions (setting x) (statement_of b) (bind s c.in-For.symbol z (int_le z low))) (between low (smallest s c.in-For.span.upper))) p) in
@@ -325,7 +325,7 @@ run_turns-returns-in-Some-clause-run g t c =
     let stores : ℤ → List Action = store_at x line.buffer line.coordinates.now (term_of line.value.now) s turns.symbol turns.low is.store.definition in
     let each : (z : ℤ) → stores z ≡ f z = λ z. sym (line_actions S (now z) a is.line is.one ∙ ap (λ (b : Statement). actions S b (now z)) is.store.is) in
     let same : stores ≡ f = λ i z. each z i in
-    subst (λ (h : ℤ → List Action). EndsIn c.args.state.now.given.capacity (λ (_ : Unit {0}). progress_of c.run_stores.new.state) c.run_stores.result (steps A (flat_map h (between turns.low turns.high)) p)) same
+    subst (λ (h : ℤ → List Action). EndsIn c.args.state.now.given.room (λ (_ : Unit {0}). progress_of c.run_stores.new.state) c.run_stores.result (steps A (flat_map h (between turns.low turns.high)) p)) same
     (c.run_stores.ensures.run is.store.definition cell)
 
 pub run_turns-run_joined-requires-clause-narrow : goal.run_turns-run_joined-requires-clause-narrow
@@ -371,7 +371,7 @@ run_turns-returns-in-Some-joined_loops-clause-run g t c =
     let p = progress_of c.args.state.now in
     let h = c.in-Some-joined_loops.ensures in
     let same = loops_run x (symbols_of c.args.symbols.now) c.args.turns (statement_of c.args.body.now) c.in-Some-joined_loops.both h in
-    subst (λ (l : List Action). EndsIn c.args.state.now.given.capacity (λ (_ : Unit {0}). progress_of c.run_joined.new.state) c.run_joined.result (steps (around x cell) l p)) (sym same)
+    subst (λ (l : List Action). EndsIn c.args.state.now.given.room (λ (_ : Unit {0}). progress_of c.run_joined.new.state) c.run_joined.result (steps (around x cell) l p)) (sym same)
     (c.run_joined.ensures.run h.loop.is.line.store.definition cell)
 
 pub run_turns-loop-value-init : goal.run_turns-loop-value-init
@@ -396,7 +396,7 @@ run_turns-returns-in_err-next-clause-run g t c =
     let cell = g.C.Cells.cell c.args.cells.now in
     let A = around x cell in
     let turns = c.args.turns in
-    let room = c.args.state.now.given.capacity in
+    let room = c.args.state.now.given.room in
     let f : ℤ → List Action = λ z. actions (setting x) (statement_of c.args.body.now) (bind (symbols_of c.args.symbols.now) turns.symbol z (int_le z turns.low)) in
     let whole : Option Progress = steps A (flat_map f (between turns.low turns.high)) (progress_of c.args.state.now) in
     let new : Progress = progress_of c.run_alike.new.state in

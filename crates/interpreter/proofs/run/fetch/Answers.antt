@@ -25,4 +25,4 @@ returns-clause-run g c =
     let e : flat_map (λ p. Take b c.group_name.result.now p ∷ []) (extended s c.as_slice.result.now []) ≡ map (Take b (group_name (slice_get (map group_of x.plan.now.groups.items) c.args.group))) (points s c.args.region.now) =
     sym (fetched s b c.group_name.result.now c.as_slice.result.now) ∙ ap (λ (xs : List Span1). map (Take b c.group_name.result.now) (points s xs)) c.as_slice.ensures
     ∙ ap (λ (f : List ℕ). map (Take b f) (points s c.args.region.now)) name in
-    subst (λ (l : List Action). EndsIn c.args.state.now.given.capacity (λ _. progress_of c.visit_points.new.state) c.visit_points.result (steps (around x cell) l (progress_of c.args.state.now))) e c.visit_points.ensures.run
+    subst (λ (l : List Action). EndsIn c.args.state.now.given.room (λ _. progress_of c.visit_points.new.state) c.visit_points.result (steps (around x cell) l (progress_of c.args.state.now))) e c.visit_points.ensures.run

@@ -47,4 +47,4 @@ returns-clause-run g c =
     ap (λ (b : Symbols). flat_map (λ p. if is_in_region b region p then Give k p ∷ [] else []) (extended s c.as_slice.result.now [])) c.requires.ready.constants
     ∙ ap (λ (xs : List Span1). flat_map (λ p. if is_in_region no_symbols region p then Give k p ∷ [] else []) (extended s xs [])) c.as_slice.ensures
     ∙ sym (gives_own (group_of x.group.now) s k (own_region x.cert.now.own.items x.number) c.in-Some.region.now found) in
-    subst (λ (l : List Action). EndsIn c.args.state.now.given.capacity (λ _. progress_of c.visit_points.new.state) c.visit_points.result (steps (around x cell) l (progress_of c.args.state.now))) e c.visit_points.ensures.run
+    subst (λ (l : List Action). EndsIn c.args.state.now.given.room (λ _. progress_of c.visit_points.new.state) c.visit_points.result (steps (around x cell) l (progress_of c.args.state.now))) e c.visit_points.ensures.run

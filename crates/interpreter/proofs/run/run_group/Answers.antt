@@ -8,6 +8,7 @@ use Rattle.plan.specs.Semantics.Actions.{actions}
 use Rattle.plan.specs.Semantics.Setting.{setting_of, around_of}
 use Rattle.interpreter.specs.Buffers.Blocks.{memory_of}
 use Rattle.interpreter.specs.Bindings.{Bindings, symbols_of}
+use Rattle.interpreter.specs.Rows.{Listed}
 use Rattle.interpreter.specs.Outcome.{piece_gives, point_in, rank_gives}
 use Rattle.interpreter.specs.Scratches.{GivesIn}
 use Rattle.interpreter.specs.States.{progress_of}
@@ -34,6 +35,6 @@ returns-clause-gives g c =
     let run : Bindings → Option Progress = λ b. steps (around_of p d samples cell) (actions (setting_of p d n (group_of group)) (statement_of group.body) (symbols_of b)) (record { memory = m; given = ns }) in
     let is : rank_gives p d samples cell n c.args.rank ≡ given_of (run c.begin.new.self) =
     ap (λ (o : Option Group). piece_gives p d samples cell n (point_in o c.args.rank)) found
-    ∙ piece_is p d samples cell n at (group_of group) m ns found c.clear.ensures.nothing c.clear-2.ensures.items ∙ ap (λ (b : Bindings). given_of (run b)) (sym is_begun) in
-    subst (λ (room : ℕ). GivesIn room c.run.result c.run.new.state.given.items (rank_gives p d samples cell n c.args.rank)) c.clear-2.ensures.capacity
-    (ends_gives c.clear-2.new.self.capacity c.run.result (progress_of c.run.new.state) (run c.begin.new.self) (rank_gives p d samples cell n c.args.rank) is c.run.ensures.run)
+    ∙ piece_is p d samples cell n at (group_of group) m ns found c.clear.ensures.nothing (ap (λ (r : Listed). r.items) c.clear-2.ensures) ∙ ap (λ (b : Bindings). given_of (run b)) (sym is_begun) in
+    subst (λ (room : ℕ). GivesIn room c.run.result c.run.new.state.given.items (rank_gives p d samples cell n c.args.rank)) (ap (λ (r : Listed). r.room) c.clear-2.ensures)
+    (ends_gives c.clear-2.new.self.room c.run.result (progress_of c.run.new.state) (run c.begin.new.self) (rank_gives p d samples cell n c.args.rank) is c.run.ensures.run)

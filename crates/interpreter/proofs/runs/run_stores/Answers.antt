@@ -65,9 +65,9 @@ returns-in_err-store_part-clause-run c = λ d cell.
     let next : whole ≡ with o go = parts_next A f z turns.high part.count p whole high (l.invariant.run d cell) ∙ ap (λ (w : Option Progress). with w go) same in
     let e = err_from_is_err_and c.from_residual.result c.from_residual.ensures.1 in
     let new : Progress = progress_of c.store_part.new.state in
-    let ended : EndsIn c.args.state.now.given.capacity (λ (_ : Unit {0}). new) (Err c.in_err-store_part.field-0.0) o =
+    let ended : EndsIn c.args.state.now.given.room (λ (_ : Unit {0}). new) (Err c.in_err-store_part.field-0.0) o =
     subst (λ (n : ℕ). EndsIn n (λ (_ : Unit {0}). new) (Err c.in_err-store_part.field-0.0) o) l.invariant.large.given (c.in_err-store_part.ensures.run d cell) in
-    rw (e.1, e.2) (stops_in A c.args.state.now.given.capacity new new c.in_err-store_part.field-0.0 o rest whole next ended)
+    rw (e.1, e.2) (stops_in A c.args.state.now.given.room new new c.in_err-store_part.field-0.0 o rest whole next ended)
 
 pub returns-in_default-clause-run : goal.returns-in_default-clause-run
 returns-in_default-clause-run c = λ d cell.

@@ -65,9 +65,9 @@ returns-in_err-store-clause-run c = λ d cell.
     let e = err_from_is_err_and c.from_residual.result c.from_residual.ensures.1 in
     let o : Option Progress = steps A (at (symbols_of c.bind.new.self)) p in
     let new : Progress = progress_of c.store.new.state in
-    let ended : EndsIn c.args.state.now.given.capacity (λ (_ : Unit {0}). new) (Err c.in_err-store.field-0.0) o =
+    let ended : EndsIn c.args.state.now.given.room (λ (_ : Unit {0}). new) (Err c.in_err-store.field-0.0) o =
     subst (λ (n : ℕ). EndsIn n (λ (_ : Unit {0}). new) (Err c.in_err-store.field-0.0) o) l.invariant.large.given (c.in_err-store.ensures.store d cell) in
-    rw (e.1, e.2) (stops_in A c.args.state.now.given.capacity new new c.in_err-store.field-0.0 o rest whole
+    rw (e.1, e.2) (stops_in A c.args.state.now.given.room new new c.in_err-store.field-0.0 o rest whole
     (next ∙ ap (λ (y : Symbols). with (steps A (at y) p) go) (sym now)) ended)
 
 pub loop-index-preserved : goal.loop-index-preserved

@@ -90,5 +90,5 @@ returns-in-None-clause-run c = λ d cell.
     let E : ℕ → Bindings → Progress → Type 0 = λ room y p. EndsIn room (λ _. progress_of c.write_points.new.state) c.write_points.result
     (steps (around x cell) (flat_map (store_at x line.buffer line.coordinates.now (term_of line.value.now) (symbols_of y) part.turns.symbol part.turns.low d) (rising part.low part.count)) p) in
     subst (λ (room : ℕ). E room c.args.symbols.now (progress_of old)) c.spot_of.ensures.large.given
-    (subst (λ (y : Bindings). E new.given.capacity y (progress_of old)) c.spot_of.ensures.symbols
-    (subst (λ (p : Progress). E new.given.capacity c.spot_of.new.symbols p) c.spot_of.ensures.progress (c.write_points.ensures.run d cell)))
+    (subst (λ (y : Bindings). E new.given.room y (progress_of old)) c.spot_of.ensures.symbols
+    (subst (λ (p : Progress). E new.given.room c.spot_of.new.symbols p) c.spot_of.ensures.progress (c.write_points.ensures.run d cell)))

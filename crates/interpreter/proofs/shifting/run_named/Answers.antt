@@ -77,5 +77,5 @@ returns-clause-run c = λ d cell.
     let x = c.args.piece.now in
     let p = progress_of c.args.state.now in
     let stores : Symbols → List Action = λ s. flat_map (store_at x line.buffer line.coordinates.now (term_of line.value.now) s turns.symbol turns.low d) (between turns.low turns.high) in
-    let Ends : List Action → Type 0 = λ l. EndsIn c.args.state.now.given.capacity (λ (_ : Unit {0}). progress_of c.run_stores-ended.new.state) c.run_stores-ended.result (steps (around x cell) l p) in
+    let Ends : List Action → Type 0 = λ l. EndsIn c.args.state.now.given.room (λ (_ : Unit {0}). progress_of c.run_stores-ended.new.state) c.run_stores-ended.result (steps (around x cell) l p) in
     subst (λ (s : Symbols). Ends (stores s)) now (c.run_stores-ended.ensures.run d cell)

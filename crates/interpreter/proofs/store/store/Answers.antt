@@ -126,4 +126,4 @@ returns-clause-store c = λ k cell.
     let behind : c.append.new.self.items ≡ q ++ c.of_reduction.result.now = ap (λ (r : Listed). r.items) c.append.ensures in
     let cut : c.truncate.new.self.items ≡ q =
     ap (λ (r : Listed). r.items) c.truncate.ensures ∙ (λ i. take (long i) (behind i)) ∙ take-append_seam q c.of_reduction.result.now in
-    subst (λ (r : Option Progress). EndsIn c.args.state.now.given.capacity (λ (_ : Unit {0}). progress_of c.set.new.state) c.set.result r) (ap (λ (l : List ℤ). sets c.args.buffer p l v) cut ∙ sym done) c.set.ensures.set
+    subst (λ (r : Option Progress). EndsIn c.args.state.now.given.room (λ (_ : Unit {0}). progress_of c.set.new.state) c.set.result r) (ap (λ (l : List ℤ). sets c.args.buffer p l v) cut ∙ sym done) c.set.ensures.set

@@ -77,9 +77,9 @@ visit_numbers-returns-in_err-visit_region-clause-run g t c =
     let later : List Action = flat_map f (between (z +ℤ pos 1) high) in
     let o : Option Progress = steps A (flat_map act (extended s region (drop (length region) c.set.new.self.items))) p in
     let new : Progress = progress_of c.visit_region.new.state in
-    let ended : EndsIn c.args.state.now.given.capacity (λ (_ : Unit {0}). new) (Err c.in_err-visit_region.field-0.0) o =
+    let ended : EndsIn c.args.state.now.given.room (λ (_ : Unit {0}). new) (Err c.in_err-visit_region.field-0.0) o =
     subst (λ (n : ℕ). EndsIn n (λ (_ : Unit {0}). new) (Err c.in_err-visit_region.field-0.0) o) l.invariant.large.given c.in_err-visit_region.ensures.run in
-    rw (e.1, e.2) (stops_in A c.args.state.now.given.capacity new new c.in_err-visit_region.field-0.0 o later whole
+    rw (e.1, e.2) (stops_in A c.args.state.now.given.room new new c.in_err-visit_region.field-0.0 o later whole
     (next ∙ ap (λ (q : List ℤ). with (steps A (flat_map act (extended s region q)) p) go) (sym longer)) ended)
 
 pub visit_numbers-returns-in_ok-visit_region-clause-run : goal.visit_numbers-returns-in_ok-visit_region-clause-run
@@ -149,4 +149,4 @@ visit_region-returns-in-len1-up-clause-run g t c =
     ∙ sym c.visit_row-left.ensures.run ∙ ap (λ (xs : List Action). steps A xs (progress_of c.args.state.now)) e in
     let E : ℕ → Option Progress → Type 0 = λ n o. EndsIn n (λ (_ : Unit {0}). progress_of c.visit_numbers.new.state) c.visit_numbers.result o in
     subst (λ (n : ℕ). E n (steps A (flat_map act (extended s r point)) (progress_of c.args.state.now))) c.visit_row-left.ensures.large.given
-    (subst (E mid.given.capacity) same c.visit_numbers.ensures.run)
+    (subst (E mid.given.room) same c.visit_numbers.ensures.run)

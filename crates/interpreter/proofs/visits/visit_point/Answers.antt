@@ -26,4 +26,4 @@ returns-then-is_in_region-clause-run g c =
     (λ i. is_in_region (symbols_of x.constants.now) (sym c.as_slice-region.ensures i) (sym c.as_slice-in-Publish.ensures i)) ∙ sym c.is_in_region.ensures ∙ c.if-is_in_region.true in
     let e : at_point x c.args.walk.now.visit p ≡ Give c.in-Publish.claim p ∷ [] =
     ap (λ (v : Visit). at_point x v p) c.in-Publish.is ∙ ap (λ (b : Bool). if b then Give c.in-Publish.claim p ∷ [] else []) inside in
-    subst (λ (l : List Action). EndsIn c.args.state.now.given.capacity (λ _. progress_of c.give.new.state) c.give.result (steps (around x cell) l (progress_of c.args.state.now))) (sym e) (c.give.ensures.give cell)
+    subst (λ (l : List Action). EndsIn c.args.state.now.given.room (λ _. progress_of c.give.new.state) c.give.result (steps (around x cell) l (progress_of c.args.state.now))) (sym e) (c.give.ensures.give cell)
