@@ -76,7 +76,7 @@ in_at (y ∷ xs) x (inl e) = (0, ap (λ (z : List ℕ). Some z) (sym e))
 in_at (y ∷ xs) x (inr m) = (let r = in_at xs x m in (suc r.0, r.1))
 
 -- distinct names in one list and in another behind it
-names_apart : (xs ys : List (List ℕ)) → AreDistinct (xs ++ ys) → (x y : List ℕ) → In x xs → In y ys → y ≡ x → ⊥
+pub names_apart : (xs ys : List (List ℕ)) → AreDistinct (xs ++ ys) → (x y : List ℕ) → In x xs → In y ys → y ≡ x → ⊥
 names_apart xs ys distinct x y mx my e =
     let i = in_at xs x mx in
     let j = in_at ys y my in
@@ -86,19 +86,19 @@ names_apart xs ys distinct x y mx my e =
     absurd (omega (arith, less, same_place))
 
 -- each reduction variable is among those of all updates
-in_all : (us : List Change) (d : ℕ) (x : List ℕ) → In x (range_names (ranges_of us d)) → In x (reductions_of us)
+pub in_all : (us : List Change) (d : ℕ) (x : List ℕ) → In x (range_names (ranges_of us d)) → In x (reductions_of us)
 in_all us zero x m = absurd m
 in_all [] (suc k) x m = absurd m
 in_all (u ∷ us) (suc zero) x m = in_left x (range_names u.ranges) (reductions_of us) m
 in_all (u ∷ us) (suc (suc k)) x m = in_right x (range_names u.ranges) (reductions_of us) (in_all us (suc k) x m)
 
-in_names : (ds : List Range) (r : Range) → In r ds → In r.variable (range_names ds)
+pub in_names : (ds : List Range) (r : Range) → In r ds → In r.variable (range_names ds)
 in_names [] r m = absurd m
 in_names (d ∷ ds) r (inl e) = inl (ap (λ (x : Range). x.variable) e)
 in_names (d ∷ ds) r (inr m) = inr (in_names ds r m)
 
 -- no two splits have one inner loop
-inners_same : (cs : List Split) → AreOthers cs → (c d : Split) → In c cs → In d cs → c.inner ≡ d.inner → c ≡ d
+pub inners_same : (cs : List Split) → AreOthers cs → (c d : Split) → In c cs → In d cs → c.inner ≡ d.inner → c ≡ d
 inners_same [] o c d m q e = absurd m
 inners_same (x ∷ cs) o c d (inl h) (inl g) e = h ∙ sym g
 inners_same (x ∷ cs) o c d (inl h) (inr q) e = absurd ((all_in (IsOther x) cs d o.1 q).inner (ap (λ (y : Split). y.inner) (sym h) ∙ e))

@@ -93,7 +93,7 @@ use Rattle.completeness.proofs.BlockLoops as loops_of
 
 module _ (z : ℤ) (s c m : ℕ) where
   -- one of both, the lesser symbol first
-  pair_either : (P : List Multiple → Type 0) → P (multiple s (pos c) ∷ multiple m (pos 1) ∷ []) → P (multiple m (pos 1) ∷ multiple s (pos c) ∷ []) → P (pair z s (pos c) m).terms
+  pub pair_either : (P : List Multiple → Type 0) → P (multiple s (pos c) ∷ multiple m (pos 1) ∷ []) → P (multiple m (pos 1) ∷ multiple s (pos c) ∷ []) → P (pair z s (pos c) m).terms
   pair_either P h k = of (nat_lt s m)
     where
       of : (b : Bool) → P (if b then multiple s (pos c) ∷ multiple m (pos 1) ∷ [] else multiple m (pos 1) ∷ multiple s (pos c) ∷ [])
@@ -101,7 +101,7 @@ module _ (z : ℤ) (s c m : ℕ) where
       of false = k
 
   -- where both are 0 it is the first number of all
-  pair_value : (v : ℕ → ℤ) → v s ≡ pos 0 → v m ≡ pos 0 → form_value (pair z s (pos c) m) v ≡ z
+  pub pair_value : (v : ℕ → ℤ) → v s ≡ pos 0 → v m ≡ pos 0 → form_value (pair z s (pos c) m) v ≡ z
   pair_value v first second =
       pair_either (λ ts. form_value (record { constant = z; terms = ts }) v ≡ z) ((λ j. z +ℤ (pos c *ℤ first j +ℤ (pos 1 *ℤ second j +ℤ pos 0))) ∙ one (pos c))
       ((λ j. z +ℤ (pos 1 *ℤ second j +ℤ (pos c *ℤ first j +ℤ pos 0))) ∙ two (pos c))
@@ -129,7 +129,7 @@ module _ (Q : Option Form → Type 0) (none : Q None) (ks : List Known) (each : 
       of None e = none
       of (Some f) e = found_all (λ y g. Q (Some g)) ks x f each e
 
-  variables_so : (b : BodyText) (d : ℕ) (xs : List (List ℕ)) → AllByRecursion Q (variables_at b d xs ks)
+  pub variables_so : (b : BodyText) (d : ℕ) (xs : List (List ℕ)) → AllByRecursion Q (variables_at b d xs ks)
   variables_so b d [] = tt
   variables_so b d (x ∷ xs) = (of (is_missing b d), variables_so b (d + 1) xs)
     where
@@ -137,7 +137,7 @@ module _ (Q : Option Form → Type 0) (none : Q None) (ks : List Known) (each : 
       of true = none
       of false = named_so x
 
-  ranges_so : (ds : List Turning) → AllByRecursion Q (ranges_at ds ks)
+  pub ranges_so : (ds : List Turning) → AllByRecursion Q (ranges_at ds ks)
   ranges_so [] = tt
   ranges_so (d ∷ ds) = (named_so d.name, ranges_so ds)
 
@@ -145,20 +145,20 @@ module _ (Q : Option Form → Type 0) (none : Q None) (ks : List Known) (each : 
 
 -- what the coordinates of a nest stay within is light, where their forms are
 module _ (scope : List Binding) where
-  abbrev IsLightList : List Multiple → Type 0
+  abbrev pub IsLightList : List Multiple → Type 0
   IsLightList ts = weight scope ts ≤ 2 ^ 38 + 2 ^ 37 + 2 ^ 36
 
-  abbrev IsLightIf : Option Form → Type 0
+  abbrev pub IsLightIf : Option Form → Type 0
   IsLightIf None = Unit {0}
   IsLightIf (Some f) = IsLightList f.terms
 
-  no_weight : IsLightList []
+  pub no_weight : IsLightList []
   no_weight = omega arith
 
   abbrev AreLight : Span1 → Type 0
   AreLight x = SpanKeeps IsLightList no_weight x
 
-  kept_light : (x : Span1) → AreLight x → IsLightSpan scope x
+  pub kept_light : (x : Span1) → AreLight x → IsLightSpan scope x
   kept_light x h = (
     all_weaker (λ f. IsLightList f.terms) (IsLight scope) (λ f k limited. inl k) x.lower h.0,
     all_weaker (λ f. IsLightList f.terms) (IsLight scope) (λ f k limited. inl k) x.upper h.1,
@@ -210,12 +210,12 @@ module _ (a : Algorithm) (u : StoredText) (outer : List Binding) (w : NestText) 
   plain_left = left_around u outer w d
 
   -- what a left index stays within, too
-  lefts_light : (j : ℕ) (e : Term) → left_at f j ≡ Some e → (x : Span1) → interval_in a plain_left e ≡ Some x → AreLight scope x
+  pub lefts_light : (j : ℕ) (e : Term) → left_at f j ≡ Some e → (x : Span1) → interval_in a plain_left e ≡ Some x → AreLight scope x
   lefts_light j e at_j x found =
       let index = simple_at f.at j e (left_got f j e at_j) (and_parts (list_all (λ (y : Written). are_simple y.at) (calls_in f)) (list_all is_simple_left f.at) simple).1 in
       simple_kept (λ ts. IsLightList scope ts) (no_weight scope) scope (called a) plain_left.variables plain_left.coordinates (spans_light scope w.at light) e index x found
 
-  simple_light : (r : AroundText) → around a u outer w f d ≡ Some r → AreCallsLight a r (calls_in f)
+  pub simple_light : (r : AroundText) → around a u outer w f d ≡ Some r → AreCallsLight a r (calls_in f)
   simple_light r stands i c at e m x found =
       let z = bound (coordinates_behind a plain_left f [] 0 w.at) (λ cs. Some (record plain_left { coordinates = cs })) r stands in
       let is : record plain_left { coordinates = z.value } ≡ r = same (record plain_left { coordinates = z.value }) r z.comes in

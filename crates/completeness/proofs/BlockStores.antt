@@ -1,6 +1,6 @@
 -- Of functions whose loops are split once, by blocks that need no line of their own: all that the lines of their groups owe is shown, where what is fetched holds the calls, and left indices
 -- that are no variables lie in their dimensions.
-use Rattle.std.proofs.Common.{◌≡◌, ℕ, ◌+◌, ◌<◌, ◌≤◌, Bool, true, false, List, [], length, map, Some, None, sym, ap, ◌∙◌, subst, arith, ◌||◌}
+use Rattle.std.proofs.Common.{◌≡◌, ℕ, ◌+◌, ◌<◌, ◌≤◌, Bool, true, false, ◌&&◌, not, ◌∷◌, List, [], length, map, Some, None, sym, ap, ◌∙◌, subst, arith, ◌||◌}
 use Rattle.std.specs.Prelude.{string_bytes, slice_get}
 use Rattle.std.specs.List.{AllByRecursion}
 use Rattle.lin.specs.declared.span.Span1.{Span1}
@@ -30,14 +30,15 @@ use Rattle.sched.specs.Legal.{IsLegal, said, loops_after}
 use Rattle.sched.specs.declared.schedule.Split.{Split}
 use Rattle.sched.specs.declared.numbers.Extent.{Extent}
 use Rattle.sched.specs.declared.numbers.Numbers.{Numbers}
-use Rattle.sched.specs.Numbers.{loop_numbers}
+use Rattle.sched.specs.Numbers.{loop_numbers, numbers_named}
+use Rattle.sched.specs.Standing.{has_rest}
 use Rattle.sched.specs.Skeleton.{SkeletonText}
 use Rattle.tails.specs.Steps.{spine_of}
 use Rattle.tails.specs.Nests.{makes_by}
 use Rattle.lower.specs.declared.lowering.Lowered.{Lowered}
 use Rattle.lower.specs.Stored.{FormulaText, StoredText, stored_functions, has_large}
 use Rattle.lower.specs.Faults.{are_whole, region_fault, no_totals}
-use Rattle.lower.specs.Regions.{LaidText, bodies_from, laid_functions}
+use Rattle.lower.specs.Regions.{LaidText, laid_functions}
 use Rattle.lower.specs.Around.{head_scope}
 use Rattle.lower.specs.Bounded.{whole, is_bounded}
 use Rattle.lower.specs.Owning.{IsLaidBy}
@@ -63,12 +64,11 @@ use Rattle.completeness.proofs.RegionBounds.{IsEnded, region_ends, root_bounded}
 use Rattle.completeness.proofs.StoreBounds.{Shows}
 use Rattle.completeness.specs.Parted.{KeepsInner}
 use Rattle.completeness.specs.Nested.{SayYes, TakeSplit}
-use Rattle.completeness.specs.Blocked.{makes_line, IsKept}
+use Rattle.completeness.specs.Blocked.{makes_line, is_entered}
 use Rattle.completeness.specs.Filled.{AreEndsShort, BlockedGroupsOweShown}
 use Rattle.completeness.proofs.NamedClaims.{alone_body}
 use Rattle.completeness.proofs.NestWalk.{LetsFirst}
 use Rattle.completeness.proofs.Joined.{claims_paired}
-use Rattle.completeness.proofs.BlockTurns.{AreBlocks}
 use Rattle.completeness.specs.Placed.{GoesOn, AreLeftsHeld, AreOwnHeld}
 use Rattle.completeness.proofs.StoreScopes.{body_bound}
 use Rattle.tree.specs.Term.{Term}
@@ -84,9 +84,28 @@ use Rattle.completeness.proofs.RangedLefts.{left_of_update}
 use Rattle.completeness.proofs.Unparallel.{apart, scattered_there}
 use Rattle.completeness.proofs.WholeDims.{whole_dimension}
 use Rattle.completeness.proofs.BlockUpdates.{yes_at}
-use Rattle.completeness.proofs.BlockNests as nests_of
-use Rattle.completeness.proofs.BlockReady as ready_of
+use Rattle.completeness.proofs.PlainTurns.{hits}
+use Rattle.completeness.proofs.PureNests.{loop_name}
+use Rattle.sched.specs.Numbers.{parallel_loops, is_too_short}
+use Rattle.sched.specs.declared.schedule.Tail.{Tail}
+use Rattle.sched.specs.declared.schedule.Tail.TheVariants.{Guard, Roundup, Shift}
+use Rattle.completeness.proofs.ShortShifts.{long_shifts}
+use Rattle.completeness.proofs.TailTurns.{is_shifted}
+use Rattle.completeness.proofs.StoreShapes as nests_of
+use Rattle.completeness.proofs.StoreTails as tails_of
 use Rattle.completeness.proofs.PlacedStores as stores_of
+
+-- no split that makes no line of its own is with `shift`
+not_shifted : (ls : List Loop) (rs : List Numbers) (cs : List Split) → AllByRecursion (λ c. makes_line ls rs c ≡ false) cs →
+    AllByRecursion (λ c. is_shifted c ≡ true → hits loop_name c.outer (parallel_loops ls) ≡ 0) cs
+not_shifted ls rs [] h = tt
+not_shifted ls rs (c ∷ cs) h = ((λ e. absurd (of c.tail e h.0)), not_shifted ls rs cs h.1)
+  where
+    of : (t : Tail) → (elim t [ Shift ↦ true | Guard ↦ false | Roundup ↦ false ]) ≡ true →
+        (elim t [ Guard ↦ has_rest c (numbers_named rs c.whole).count && not (is_entered ls c) | Roundup ↦ false | Shift ↦ true ]) ≡ false → ⊥
+    of Guard q r = cc q
+    of Roundup q r = cc q
+    of Shift q r = cc r
 
 -- ---- groups
 
@@ -122,7 +141,8 @@ module _ (a : Algorithm) (sch : Schedule) (l : Lowered) (well : IsAlgorithm a) (
       (limits : IsLimited h.skeleton) (grid : q.grid.items ≡ h.skeleton.grid) (short : AllByRecursion IsShort h.skeleton.grid) (narrow : length h.skeleton.grid ≤ most_symbols)
       (few_here : BindBelow most_symbols (statement_of q.body)) (laid : IsLaidBy (texts f) h.extents h.skeleton) (split_alone : AreSplitOnce (texts f).placed.cuts)
       (keeps : KeepsInner (texts f).placed.loops (texts f).placed.cuts)
-      (filled : AllByRecursion (λ c. makes_line (texts f).placed.loops (loop_numbers (texts f).subject.variables (texts f).placed.cuts h.extents) c ≡ false) (texts f).placed.cuts)
+      (shifts : AllByRecursion (λ c. is_shifted c ≡ true → hits loop_name c.outer (parallel_loops (texts f).placed.loops) ≡ 0) (texts f).placed.cuts)
+      (roomy_all : AllByRecursion (λ c. is_too_short (loop_numbers (texts f).subject.variables (texts f).placed.cuts h.extents) c ≡ false) (texts f).placed.cuts)
       (early : AreEndsShort (loop_numbers (texts f).subject.variables (texts f).placed.cuts h.extents) (texts f).placed.cuts)
       (lefts : AreLeftsHeld a (texts f) h.formulas h.extents h.skeleton) (own_indices : AreOwnHeld a (texts f) h.formulas h.extents h.skeleton)
       (bounded : is_bounded a (texts f) (head_scope h.skeleton) (map whole h.extents) 0 h.formulas h.skeleton.nests ≡ Some true) (ended : AllByRecursion IsEnded h.extents)
@@ -157,14 +177,8 @@ module _ (a : Algorithm) (sch : Schedule) (l : Lowered) (well : IsAlgorithm a) (
     abbrev claim_of_name : List ℕ → Span1
     claim_of_name x = (dimension_of (lay_over g h.extents k) cuts x).claim
 
-    shape_here : AreBlocks f.variables (bodies_from g.changes 0 g.subject.reductions fs) g.placed (nests_of.others a sch l well legal small kept all groups n first line g q claims needs there
-        theirs h lined numbered alone_here laid split_alone keeps filled) (nests_of.once a sch l well legal small kept all groups n first line g q claims needs there theirs h lined numbered
-        alone_here laid split_alone keeps filled) rs
-        (λ c m. nests_of.free a sch l well legal small kept all groups n first line g q claims needs there theirs h lined numbered alone_here laid split_alone keeps filled c m) k
-    shape_here = nests_of.shape a sch l well legal small kept all groups n first line g q claims needs there theirs h lined numbered alone_here laid split_alone keeps filled
-
     bare : AllByRecursion (λ w. LetsFirst (λ i pick forms. ⊥) w.steps) k.nests
-    bare = nests_of.bare_nests a sch l well legal small kept all groups n first line g q claims needs there theirs h lined numbered alone_here laid split_alone keeps filled
+    bare = nests_of.bare_nests a sch l well legal small kept all groups n first line g q claims needs there theirs h lined numbered alone_here laid split_alone keeps
 
     abbrev More : Obligation → Type 0
     More o = IsNameTest o.wanted → ⊥
@@ -176,7 +190,7 @@ module _ (a : Algorithm) (sch : Schedule) (l : Lowered) (well : IsAlgorithm a) (
     dims_whole : (j d : ℕ) (u : FormulaText) (e : Term) (x : List ℕ) (z : Extent) → slice_get fs d ≡ Some u → slice_get u.at j ≡ Some (Some e) → slice_get f.variables j ≡ Some x →
         slice_get h.extents j ≡ Some z → (y : Extent) × GoesOn z y × (place_named x ≡ From (number y.low) y.count) × (claim_of_name x ≡ whole y)
     dims_whole j d u e x z at_u at_e at_x at_z =
-        whole_dimension a sch l well legal small kept all groups n first line g q claims needs there theirs h lined numbered alone_here laid split_alone keeps filled j x at_x apart_here
+        whole_dimension a sch l well legal small kept all groups n first line g q claims needs there theirs h lined numbered alone_here laid split_alone keeps j x at_x apart_here
         ended early z at_z
       where
         apart_here : (o : Loop) → In o g.placed.loops → is_parallel o ≡ true → o.dimension ≡ j → ⊥
@@ -196,27 +210,30 @@ module _ (a : Algorithm) (sch : Schedule) (l : Lowered) (well : IsAlgorithm a) (
     body_shows : EachLine O R AllShown (statement_of q.body) (body_line plan n) (start (grid_binders q.grid.items))
     body_shows =
         stores_of.body_shows a sch l well legal small kept all groups told free n q place f at there first line claims needs theirs h hold numbered lined alone_here bounded lefts
-            own_indices held_parts
-        place_named claim_of_name (nests_of.own_places_are a sch l well legal small kept all groups n first line g q claims needs there theirs h lined numbered alone_here laid split_alone keeps
-        filled) (nests_of.own_claim_is a sch l well legal small kept all groups n first line g q claims needs there theirs h lined numbered alone_here laid split_alone keeps filled)
-        dims_whole laid.long (nests_of.dims a sch l well legal small kept all groups n first line g q claims needs there theirs h lined numbered alone_here laid split_alone keeps filled)
-        (λ d w stands known scoped. ready_of.ready_here a sch l well legal small kept all groups n first line g q claims needs there theirs h lined numbered alone_here laid split_alone
-        keeps filled ended early d w stands known scoped) (body_bound a sch l well legal small kept all groups few n q f first line claims needs h laid limits grid short narrow bare few_here)
+        own_indices held_parts
+        place_named claim_of_name (nests_of.own_places_are a sch l well legal small kept all groups n first line g q claims needs there theirs h lined numbered alone_here laid split_alone
+        keeps) (nests_of.own_claim_is a sch l well legal small kept all groups n first line g q claims needs there theirs h lined numbered alone_here laid split_alone keeps)
+        dims_whole laid.long (nests_of.dims a sch l well legal small kept all groups n first line g q claims needs there theirs h lined numbered alone_here laid split_alone keeps)
+        (λ d w stands known scoped. tails_of.ready_here a sch l well legal small kept all groups n first line g q claims needs there theirs h lined numbered alone_here laid split_alone
+        keeps shifts roomy_all ended early d w stands known scoped) (body_bound a sch l well legal small kept all groups few n q f first line claims needs h laid limits grid short
+        narrow bare few_here)
 
   -- what the stores of a group owe
-  abbrev StoresAreShown : ℕ → Group → Type 0
+  abbrev pub StoresAreShown : ℕ → Group → Type 0
   StoresAreShown n x =
       EachLine (outline_of plan cert n x) (rules_of a plan cert n)
       (λ s at_line known. IsStoreLine s → (nests : Nests) →
       Shows (outline_of plan cert n x) (rules_of a plan cert n) nests (λ o. IsNameTest o.wanted → ⊥) (obligations (outline_of plan cert n x) (rules_of a plan cert n) s at_line known))
       x.body (body_line plan n) (start (grid_binders x.grid))
 
-  group_at : (n : ℕ) (q : CodeGroup) → slice_get l.plan.groups.items n ≡ Some q → (v : StoredText) → slice_get (stored_functions a sch) n ≡ Some v → IsKept a sch n v →
-      (us : List FormulaText) → v.formulas ≡ Some us → (r : LaidText) → slice_get (laid_functions a (stored_functions a sch)) n ≡ Some (Some r) →
+  pub group_at : (n : ℕ) (q : CodeGroup) → slice_get l.plan.groups.items n ≡ Some q → (v : StoredText) → slice_get (stored_functions a sch) n ≡ Some v → AreSplitOnce v.placed.cuts →
+      KeepsInner v.placed.loops v.placed.cuts →
+      AllByRecursion (λ c. is_shifted c ≡ true → hits loop_name c.outer (parallel_loops v.placed.loops) ≡ 0) v.placed.cuts → (us : List FormulaText) → v.formulas ≡ Some us → (r : LaidText)
+      → slice_get (laid_functions a (stored_functions a sch)) n ≡ Some (Some r) →
       AreLeftsHeld a v us r.region r.skeleton → AreOwnHeld a v us r.region r.skeleton → AreHeld a (stored_functions a sch) n v us r.skeleton → AreEndsShort (loop_numbers v.subject.variables
       v.placed.cuts r.region) v.placed.cuts →
       StoresAreShown n (group_of q)
-  group_at n q theirs v stands blocked us defined r found_there lefts own_indices held_parts early =
+  group_at n q theirs v stands once_only inners_only shifts us defined r found_there lefts own_indices held_parts early =
       let me = made_at a sch l well legal small kept all groups n q theirs in
       let w = found a sch flags_of me.stored a.functions n me.is in
       let p = alone_body a entries mine 0 0 4 (stored_functions a sch) l.plan.groups.items mine l.certificate.needs.items (groups.bodies all)
@@ -241,13 +258,14 @@ module _ (a : Algorithm) (sch : Schedule) (l : Lowered) (well : IsAlgorithm a) (
       let narrow : length body.skeleton.grid ≤ most_symbols = subst (λ (ns : List ℕ). length ns ≤ most_symbols) grid (grids n (group_of q) (at_map group_of l.plan.groups.items n q theirs)) in
       let limits = skeleton_limited a sch l well legal small kept all groups n q w.place w.function w.at there b.first_claim b.line b.claims b.needs theirs body in
       let this : v ≡ texts w.function = some_same v (texts w.function) (sym stands ∙ there) in
-      let mine_so : IsKept a sch n (texts w.function) = subst (IsKept a sch n) this blocked in
-      let filled : AllByRecursion (λ c. makes_line (texts w.function).placed.loops (loop_numbers (texts w.function).subject.variables (texts w.function).placed.cuts body.extents) c ≡ false)
-      (texts w.function).placed.cuts =
-      subst (λ (es : List Extent). AllByRecursion (λ c. makes_line (texts w.function).placed.loops (loop_numbers (texts w.function).subject.variables (texts w.function).placed.cuts es) c ≡
-      false) (texts w.function).placed.cuts)
+      let once_here : AreSplitOnce (texts w.function).placed.cuts = subst (λ (u : StoredText). AreSplitOnce u.placed.cuts) this once_only in
+      let inners_here : KeepsInner (texts w.function).placed.loops (texts w.function).placed.cuts = subst (λ (u : StoredText). KeepsInner u.placed.loops u.placed.cuts) this inners_only in
+      let shifts_here : AllByRecursion (λ c. is_shifted c ≡ true → hits loop_name c.outer (parallel_loops (texts w.function).placed.loops) ≡ 0) (texts w.function).placed.cuts =
+      subst (λ (u : StoredText). AllByRecursion (λ c. is_shifted c ≡ true → hits loop_name c.outer (parallel_loops u.placed.loops) ≡ 0) u.placed.cuts) this shifts in
+      let roomy : AllByRecursion (λ c. is_too_short (loop_numbers (texts w.function).subject.variables (texts w.function).placed.cuts body.extents) c ≡ false) (texts w.function).placed.cuts =
+      subst (λ (es : List Extent). AllByRecursion (λ c. is_too_short (loop_numbers (texts w.function).subject.variables (texts w.function).placed.cuts es) c ≡ false) (texts w.function).placed.cuts)
       extents
-      (mine_so.filled me.laid me.found) in
+      (long_shifts a sch kept n (texts w.function) me.laid there me.found) in
       let root = root_bounded a (has_large (stored_functions a sch)) no_totals (stored_functions a sch) (laid_functions a (stored_functions a sch)) kept n (texts w.function) body.formulas me.laid
       there body.defined me.found in
       let bounded : is_bounded a (texts w.function) (head_scope body.skeleton) (map whole body.extents) 0 body.formulas body.skeleton.nests ≡ Some true =
@@ -276,7 +294,7 @@ module _ (a : Algorithm) (sch : Schedule) (l : Lowered) (well : IsAlgorithm a) (
       (subst (λ (fs : List FormulaText). AreOwnHeld a (texts w.function) fs r.region r.skeleton) texts_same
       (subst (λ (u : StoredText). AreOwnHeld a u us r.region r.skeleton) this own_indices))) in
       body_shows n q w.place w.function w.at there b.first_claim b.line b.claims b.needs theirs body holding b.numbered begins own limits grid short narrow
-      (few n (group_of q) (at_map group_of l.plan.groups.items n q theirs)) laid mine_so.once mine_so.inners filled early_there lefts_there own_there bounded region held_there
+      (few n (group_of q) (at_map group_of l.plan.groups.items n q theirs)) laid once_here inners_here shifts_here roomy early_there lefts_there own_there bounded region held_there
 
 pub blocked_owed : BlockedGroupsOweShown
 blocked_owed a s l well legal small regions groups all free told grids few near n g at u there blocked fs defined r laid lefts own_indices held_parts early nests takes =
@@ -285,7 +303,8 @@ blocked_owed a s l well legal small regions groups all free told grids few near 
     let o = outline_of p c n g in
     let rules = rules_of a p c n in
     let x = from_map group_of l.plan.groups.items n g at in
-    let at_group = group_at a s l well legal small (regions all).0 all groups told free grids few n x.0 x.1 u there blocked fs defined r laid lefts own_indices held_parts early in
+    let at_group = group_at a s l well legal small (regions all).0 all groups told free grids few n x.0 x.1 u there blocked.once blocked.inners
+    (not_shifted u.placed.loops (loop_numbers u.subject.variables u.placed.cuts r.region) u.placed.cuts (blocked.filled r laid)) fs defined r laid lefts own_indices held_parts early in
     let shown = subst (λ (y : Group). StoresAreShown a s l well legal small (regions all).0 all groups told free grids few n y) (sym x.2) at_group in
     let stores = lines_weaker o rules (λ t i y. IsStoreLine t → (tests : Nests) → Shows o rules tests (λ o'. IsNameTest o'.wanted → ⊥) (obligations o rules t i y))
     (λ t i y. IsStoreLine t → AllByRecursion (λ o'. (IsNameTest o'.wanted → ⊥) → is_shown rules nests o' ≡ true) (obligations o rules t i y)) (λ t i y z one. z one nests) g.body (body_line p n)

@@ -43,7 +43,7 @@ use Rattle.lower.proofs.Blocking.{IsSmall, CutFits}
 use Rattle.lower.proofs.Owners as owners
 use Rattle.completeness.specs.Laws.{AreSplitOnce}
 use Rattle.completeness.specs.Parted.{KeepsInner}
-use Rattle.completeness.specs.Blocked.{is_tailed, makes_line}
+use Rattle.completeness.specs.Blocked.{is_tailed}
 use Rattle.completeness.specs.Filled.{AreEndsShort}
 use Rattle.completeness.specs.Placed.{GoesOn}
 use Rattle.completeness.proofs.RegionBounds.{IsEnded}
@@ -51,8 +51,9 @@ use Rattle.completeness.proofs.Served.{roots}
 use Rattle.completeness.proofs.PureNests.{all_in, all_get, loop_name}
 use Rattle.completeness.proofs.PlainTurns.{one_if, hits}
 use Rattle.completeness.proofs.StoreLists.{numbers_at}
-use Rattle.completeness.proofs.BlockDims.{top, top_low, top_high, top_full, end_of_all, all_of}
-use Rattle.completeness.proofs.BlockNests as nests_of
+use Rattle.completeness.proofs.BlockDims.{top, top_low, top_high, top_full}
+use Rattle.completeness.proofs.TailDims.{end_of_all, all_of}
+use Rattle.completeness.proofs.StoreShapes as nests_of
 
 -- no parallel loop of this name
 none_hit : (ls : List Loop) (x : List ℕ) → ((o : Loop) → In o ls → is_parallel o ≡ true → o.name ≡ x → ⊥) → hits loop_name x (parallel_loops ls) ≡ 0
@@ -100,8 +101,7 @@ module _ (a : Algorithm) (sch : Schedule) (l : Lowered) (well : IsAlgorithm a) (
       (h : HasBody a (roots a sch l well legal small kept all groups) n first line g p claims needs) (lined : body_line plan n ≡ line + 1)
       (placed : (j : ℕ) (v : CodeClaim) → slice_get claims j ≡ Some v → slice_get items (first + j) ≡ Some v)
       (alone_here : (j : ℕ) (w : CodeClaim) → slice_get items j ≡ Some w → line < w.line → w.line < line + (lines (statement_of p.body) + 1) → In w claims)
-      (laid : IsLaidBy g h.extents h.skeleton) (split_alone : AreSplitOnce g.placed.cuts) (keeps : KeepsInner g.placed.loops g.placed.cuts)
-      (filled : AllByRecursion (λ c. makes_line g.placed.loops (loop_numbers g.subject.variables g.placed.cuts h.extents) c ≡ false) g.placed.cuts) where
+      (laid : IsLaidBy g h.extents h.skeleton) (split_alone : AreSplitOnce g.placed.cuts) (keeps : KeepsInner g.placed.loops g.placed.cuts) where
     abbrev xs : List (List ℕ)
     xs = g.subject.variables
 
@@ -149,26 +149,25 @@ module _ (a : Algorithm) (sch : Schedule) (l : Lowered) (well : IsAlgorithm a) (
       cut_dims c m is =
           let r = owners.arranged g h.extents h.skeleton laid in
           let none = none_of c.outer ((all_in (SplitFits r.rs r.w r.b r.dim g.placed.used) cuts c r.cuts m).along.outer ∙ ap dim is ∙ here) in
-          let d = nests_of.dim_split a sch l well legal small kept all groups n first line g p claims needs at there h lined placed alone_here laid split_alone keeps filled c m none in
-          let free = nests_of.free a sch l well legal small kept all groups n first line g p claims needs at there h lined placed alone_here laid split_alone keeps filled c m in
-          let fits = nests_of.fits a sch l well legal small kept all groups n first line g p claims needs at there h lined placed alone_here laid split_alone keeps filled c m in
-          let fit = nests_of.fit_of a sch l well legal small kept all groups n first line g p claims needs at there h lined placed alone_here laid split_alone keeps filled c.whole
-          (nests_of.wholes a sch l well legal small kept all groups n first line g p claims needs at there h lined placed alone_here laid split_alone keeps filled c m) in
+          let d = nests_of.dim_split a sch l well legal small kept all groups n first line g p claims needs at there h lined placed alone_here laid split_alone keeps c m none in
+          let fits = nests_of.fits a sch l well legal small kept all groups n first line g p claims needs at there h lined placed alone_here laid split_alone keeps c m in
+          let fit = nests_of.fit_of a sch l well legal small kept all groups n first line g p claims needs at there h lined placed alone_here laid split_alone keeps c.whole
+          (nests_of.wholes a sch l well legal small kept all groups n first line g p claims needs at there h lined placed alone_here laid split_alone keeps c m) in
           let last_so : last_number (numbers_named rs c.whole) ≤ℤ pos 2147483647 = subst (λ (y : List ℕ). last_number (numbers_named rs y) ≤ℤ pos 2147483647) (sym is) last_here in
           let near = all_in (λ c. is_tailed rs c ≡ false → has_rest c (numbers_named rs c.whole).count ≡ true → (last_number (numbers_named rs c.whole) +ℤ pos c.factor) ≤ℤ pos 2147483647)
-              cuts c early m in
-          let w = whole_split c fits fit.0 fit.1 free last_so near in
-          let e : Extent = record { low = (numbers_named rs c.whole).low; count = all_of ls rs c free fits fit.0 fit.1 } in
+          cuts c early m in
+          let w = whole_split c fits fit.0 fit.1 last_so near in
+          let e : Extent = record { low = (numbers_named rs c.whole).low; count = all_of rs c fits fit.0 fit.1 } in
           (e, (refl, w.0, w.2, d.1, d.0 ∙ ap (numbers (numbers_named rs c.whole).low) (sym w.1)))
         where
           -- all blocks together have the loop's numbers
-          whole_split : (c : Split) (fits : CutFits rs c) (fit : IsSmall (numbers_named rs c.whole)) (some : 0 < (numbers_named rs c.whole).count) (free : makes_line ls rs c ≡ false) →
+          whole_split : (c : Split) (fits : CutFits rs c) (fit : IsSmall (numbers_named rs c.whole)) (some : 0 < (numbers_named rs c.whole).count) →
               last_number (numbers_named rs c.whole) ≤ℤ pos 2147483647 →
               (is_tailed rs c ≡ false → has_rest c (numbers_named rs c.whole).count ≡ true → (last_number (numbers_named rs c.whole) +ℤ pos c.factor) ≤ℤ pos 2147483647) →
-              ((numbers_named rs c.whole).count ≤ all_of ls rs c free fits fit some)
-              × ((numbers_named rs c.whole).low +ℤ pos (all_of ls rs c free fits fit some) -ℤ pos 1 ≡ end_of_all ls rs c free fits fit some)
-              × (((numbers_named rs c.whole).low +ℤ pos (all_of ls rs c free fits fit some) -ℤ pos 1) ≤ℤ pos 2147483647)
-          whole_split c fits fit some free last_so near = of (is_tailed rs c) refl
+              ((numbers_named rs c.whole).count ≤ all_of rs c fits fit some)
+              × ((numbers_named rs c.whole).low +ℤ pos (all_of rs c fits fit some) -ℤ pos 1 ≡ end_of_all rs c fits fit some)
+              × (((numbers_named rs c.whole).low +ℤ pos (all_of rs c fits fit some) -ℤ pos 1) ≤ℤ pos 2147483647)
+          whole_split c fits fit some last_so near = of (is_tailed rs c) refl
             where
               own : Numbers
               own = numbers_named rs c.whole
@@ -199,7 +198,7 @@ module _ (a : Algorithm) (sch : Schedule) (l : Lowered) (well : IsAlgorithm a) (
       reached : (e : Extent) × IsReached x e
       reached = elim (all_in (IsHeld ls cuts) xs x (owners.arranged g h.extents h.skeleton laid).variables (at_in xs j x at_x)) [
         | inl o ↦
-            (let d = nests_of.dim_loop a sch l well legal small kept all groups n first line g p claims needs at there h lined placed alone_here laid split_alone keeps filled x (at_in xs j x at_x)
+            (let d = nests_of.dim_loop a sch l well legal small kept all groups n first line g p claims needs at there h lined placed alone_here laid split_alone keeps x (at_in xs j x at_x)
             (none_of x here) (o.0, o.1, o.2) in
             (record { low = (numbers_named rs x).low; count = (numbers_named rs x).count }, (refl, omega arith, last_here, d.1, d.0)))
         | inr c ↦ subst (λ (y : List ℕ). (e : Extent) × IsReached y e) c.2 (cut_dims c.0 c.1 c.2)

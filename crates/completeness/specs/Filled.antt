@@ -1,11 +1,12 @@
 -- What the lines of a group owe the checker, of a function whose loops are split once, by blocks that need no line of their own.
-use Rattle.std.specs.Prelude.{◌≡◌, ◌⊎◌, ℕ, true, false, List, Some, pos, ◌+ℤ◌, ◌≤ℤ◌, slice_get}
-use Rattle.std.specs.List.{AllByRecursion}
+use Rattle.std.specs.Prelude.{◌≡◌, ◌⊎◌, ℕ, ◌&&◌, true, false, List, Some, pos, ◌+ℤ◌, ◌≤ℤ◌, slice_get}
+use Rattle.std.specs.List.{AllByRecursion, list_any}
 use Rattle.plan.specs.Plan.{Group}
 use Rattle.plan.specs.View.{plan_of}
 use Rattle.plan.specs.Certificate.Certificate.{certificate_of}
 use Rattle.meaning.specs.Algorithm.{Algorithm}
 use Rattle.meaning.specs.Conditions.{IsAlgorithm}
+use Rattle.meaning.specs.Names.{same_name}
 use Rattle.sched.specs.declared.schedule.Split.{Split}
 use Rattle.sched.specs.declared.numbers.Extent.{Extent}
 use Rattle.sched.specs.declared.numbers.Numbers.{Numbers}
@@ -13,14 +14,17 @@ use Rattle.sched.specs.Schedule.{Schedule}
 use Rattle.sched.specs.Legal.{IsLegal}
 use Rattle.sched.specs.Numbers.{numbers_named, loop_numbers, last_number}
 use Rattle.sched.specs.Standing.{has_rest}
+use Rattle.sched.specs.Placing.{is_parallel, is_shifted}
+use Rattle.sched.specs.declared.placing.Loop.{Loop}
 use Rattle.lower.specs.declared.lowering.Lowered.{Lowered}
 use Rattle.lower.specs.Stored.{FormulaText, StoredText, stored_functions}
 use Rattle.lower.specs.Regions.{LaidText, laid_functions}
 use Rattle.lower.specs.Faults.{are_whole}
 use Rattle.lower.specs.Refused.{AreSmall, AreRegionsKept}
 use Rattle.lower.specs.Groups.{AreGroupsMade}
-use Rattle.completeness.specs.Laws.{AreLinesTold, NamesNoLoad}
-use Rattle.completeness.specs.Owed.{AreGridsFew, AreSymbolsFew, AreClaimsNear}
+use Rattle.completeness.specs.Laws.{AreLinesTold, NamesNoLoad, IsStore, AreSplitOnce}
+use Rattle.completeness.specs.Parted.{KeepsInner}
+use Rattle.completeness.specs.Owed.{OweShown, AreGridsFew, AreSymbolsFew, AreClaimsNear}
 use Rattle.completeness.specs.Nested.{TakeSplit}
 use Rattle.completeness.specs.Stores.{AreHeld, GroupShown, IsNearRegion}
 use Rattle.completeness.specs.Simple.{SimpleIndices}
@@ -47,7 +51,8 @@ BlockedGroupsOweShown =
     → AreClaimsNear (certificate_of l.certificate)
     → (n : ℕ) (g : Group) → slice_get (plan_of l.plan).groups n ≡ Some g → (u : StoredText) → slice_get (stored_functions a s) n ≡ Some u → IsKept a s n u
     → (fs : List FormulaText) → u.formulas ≡ Some fs → (r : LaidText) → slice_get (laid_functions a (stored_functions a s)) n ≡ Some (Some r)
-    → AreLeftsHeld a u fs r.region r.skeleton → AreOwnHeld a u fs r.region r.skeleton → AreHeld a (stored_functions a s) n u fs r.skeleton → AreEndsShort (loop_numbers u.subject.variables u.placed.cuts r.region) u.placed.cuts
+    → AreLeftsHeld a u fs r.region r.skeleton → AreOwnHeld a u fs r.region r.skeleton → AreHeld a (stored_functions a s) n u fs r.skeleton → AreEndsShort (loop_numbers u.subject.variables
+    u.placed.cuts r.region) u.placed.cuts
     → GroupShown TakeSplit a (plan_of l.plan) (certificate_of l.certificate) n g
 
 -- so it is, whatever such a function fetches, where its region begins near 0 or its indices are simple
@@ -59,3 +64,19 @@ NearBlockedGroupsOweShown =
     → (n : ℕ) (g : Group) → slice_get (plan_of l.plan).groups n ≡ Some g → (u : StoredText) → slice_get (stored_functions a s) n ≡ Some u → IsKept a s n u
     → (fs : List FormulaText) → u.formulas ≡ Some fs → (r : LaidText) → slice_get (laid_functions a (stored_functions a s)) n ≡ Some (Some r) → ArePlaced a u fs r
     → IsNearOrSimple u fs r.region → GroupShown TakeSplit a (plan_of l.plan) (certificate_of l.certificate) n g
+
+-- no outer loop of a split with `shift` is parallel
+abbrev pub AreShiftsInside : List Loop → List Split → Type 0
+AreShiftsInside ls cs = AllByRecursion (λ c. is_shifted c ≡ true → list_any (λ l. is_parallel l && same_name l.name c.outer) ls ≡ false) cs
+
+-- of each function whose loops are split once, whatever the tails and in whatever order the loops stand, whose indices are simple and whose blocks reach numbers
+-- of 32 bits where nothing keeps them within their loop: all that the stores of its group owe is shown
+abbrev pub StoreLinesOweShown : Type 0
+StoreLinesOweShown =
+    (a : Algorithm) (s : Schedule) (l : Lowered) → IsAlgorithm a → IsLegal a s → AreSmall a s → AreRegionsKept a s → AreGroupsMade a s l
+    → are_whole (stored_functions a s) ≡ true → NamesNoLoad a → AreLinesTold (plan_of l.plan) → AreGridsFew (plan_of l.plan) → AreSymbolsFew (plan_of l.plan)
+    → (n : ℕ) (g : Group) → slice_get (plan_of l.plan).groups n ≡ Some g → (u : StoredText) → slice_get (stored_functions a s) n ≡ Some u
+    → AreSplitOnce u.placed.cuts → KeepsInner u.placed.loops u.placed.cuts → AreShiftsInside u.placed.loops u.placed.cuts
+    → (fs : List FormulaText) → u.formulas ≡ Some fs → (r : LaidText) → slice_get (laid_functions a (stored_functions a s)) n ≡ Some (Some r) → ArePlaced a u fs r
+    → SimpleIndices fs → AreEndsShort (loop_numbers u.subject.variables u.placed.cuts r.region) u.placed.cuts
+    → OweShown IsStore a (plan_of l.plan) (certificate_of l.certificate) n g

@@ -1,12 +1,18 @@
 -- An algorithm and a schedule written out, of which the law of all that the checker tells speaks.
-use Rattle.std.specs.Prelude.{ℕ, List, [], ◌∷◌, codes, pos}
+use Rattle.std.specs.Prelude.{◌≡◌, ℕ, List, [], ◌∷◌, Some, codes, pos, slice_get}
+use Rattle.std.specs.List.{AllByRecursion}
 use Rattle.numeric.specs.declared.ty.Ty.TheVariants.{U8, I32}
 use Rattle.numeric.specs.declared.op.Op.TheVariants.{Add}
 use Rattle.tree.specs.Term.{Term, Number, Name, Call, Binary, Clamp, End, More}
 use Rattle.meaning.specs.Algorithm.{Change, Function, Algorithm}
 use Rattle.sched.specs.declared.schedule.Tail.{Tail}
-use Rattle.sched.specs.declared.schedule.Tail.TheVariants.{Guard, Roundup}
-use Rattle.sched.specs.Schedule.{DirectiveText, compute_root, split, vectorize, parallel, Schedule}
+use Rattle.sched.specs.declared.schedule.Tail.TheVariants.{Guard, Roundup, Shift}
+use Rattle.sched.specs.Schedule.{DirectiveText, compute_root, split, reorder, vectorize, parallel, Schedule}
+use Rattle.lower.specs.Stored.{stored_functions}
+use Rattle.lower.specs.Regions.{LaidText, laid_functions}
+use Rattle.lower.specs.Bodies.{step_lines}
+use Rattle.completeness.specs.Fitting.{SplitsOnce}
+use Rattle.completeness.specs.OfPlans.{AreFormulasSmall}
 use Rattle.completeness.specs.Told.{SplitsPlainly}
 
 abbrev x : List ℕ
@@ -65,3 +71,22 @@ both_split =
 -- they are such as the law asks
 abbrev pub SplitsFill : Type 0
 SplitsFill = SplitsPlainly two_functions both_split
+
+-- shifted blocks of two rows, one to a piece, and blocks of three numbers, whose loop stands outside of that over the blocks: a guard keeps them within the row
+abbrev pub shifted_split : Schedule
+shifted_split =
+    record { function = codes "f"; directives = compute_root ∷ halved y (codes "yo") (codes "yi") 2 Guard ∷ reorder (codes "yo" ∷ codes "yi" ∷ []) ∷ [] }
+    ∷ record {
+      function = codes "out";
+      directives =
+          halved y (codes "yo") (codes "yi") 2 Shift ∷ parallel (codes "yo") ∷ halved x (codes "xo") (codes "xi") 3 Guard ∷ reorder (codes "xo" ∷ codes "xi" ∷ []) ∷ [];
+    } ∷ []
+
+-- they are such as the law of texts asks, and their definitions are small; the shifted blocks make a let over the grid, and the nest of each of the three
+-- definitions has nine lines before its store: three loops with their ends, a guard with its end, and a let behind that
+pub record SplitsOnceFill : Type 0 where
+  pub once : SplitsOnce two_functions shifted_split
+  pub small : AreFormulasSmall two_functions shifted_split
+  pub head : (r : LaidText) → slice_get (laid_functions two_functions (stored_functions two_functions shifted_split)) 1 ≡ Some (Some r) → step_lines r.skeleton.head ≡ 1
+  pub nests : (n : ℕ) (r : LaidText) → slice_get (laid_functions two_functions (stored_functions two_functions shifted_split)) n ≡ Some (Some r) →
+      AllByRecursion (λ w. step_lines w.steps ≡ 9) r.skeleton.nests

@@ -1,6 +1,6 @@
 //! Laws of what the lines of groups owe the checker, in plans that `lower` makes of functions whose loops are split.
 
-ghost use Rattle.completeness.specs.Filled.{BlockedGroupsOweShown, NearBlockedGroupsOweShown};
+ghost use Rattle.completeness.specs.Filled.{BlockedGroupsOweShown, NearBlockedGroupsOweShown, StoreLinesOweShown};
 
 /// Of a schedule under which each stored function is a root function that is computed at no loop, the group of each function whose loops are split once, none
 /// with `shift`: with `roundup`, or with `guard` where over its region the factor divides the loop's numbers, the inner loop stands inside of the outer one, or a
@@ -23,4 +23,15 @@ pub fn blocked_groups_owe_shown()
 /// over that region, adds nothing to it. So each left index lies in it.
 pub fn near_blocked_groups_owe_shown()
     ensures { NearBlockedGroupsOweShown }
+{}
+
+/// Of a schedule as above, each function whose loops are split once, with whatever tails and in whatever order they stand, no inner loop of a split being parallel
+/// and no outer one of a split with `shift`: all that the lines `store` of its group owe is shown, whatever the tests of nests say (no K4, no K5 of them), where
+/// each index of its definitions is simple, as above, no block that nothing keeps within its loop reaches a number past 32 bits, and asking for the function's
+/// region came to an end where some left index is no variable. A guard that keeps a rest, and whose outer loop stands inside of the inner one, is a let: the
+/// lesser of the position and the loop's last number; the first number of a block that `shift` moves is one, too: the lesser of where the block began and of where
+/// the last one has room. Both numbers that a let has the lesser of are at least the loop's first number, and one of them has no symbol: so the checker's search,
+/// which takes the one or the other, finds what a let is at least, as what it is at most.
+pub fn store_lines_owe_shown()
+    ensures { StoreLinesOweShown }
 {}

@@ -1,10 +1,17 @@
 //! An algorithm and a schedule written out.
 
-ghost use Rattle.completeness.specs.Worked.{SplitsFill};
+ghost use Rattle.completeness.specs.Worked.{SplitsFill, SplitsOnceFill};
 
 /// A function over 8 by 5 points that reads the input and is updated at a left index that is no variable, computed in a piece for each two rows, which run past
 /// the end, and an output that calls it, in blocks of two rows, which a guard keeps within its five, by four numbers, whose loop is vectorised: the law of all
 /// that the checker tells speaks of such a schedule. By computation.
 pub fn splits_are_plain()
     ensures { SplitsFill }
+{}
+
+/// The same functions in shifted blocks of two rows, one to a piece, and in blocks whose loop stands outside of that over the blocks, which a guard keeps within
+/// the picture: the law of texts speaks of such a schedule, and its definitions are small; it makes a let over the grid, and in each nest a guard and a let
+/// behind it. By computation.
+pub fn splits_are_once()
+    ensures { SplitsOnceFill }
 {}

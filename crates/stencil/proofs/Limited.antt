@@ -11,7 +11,7 @@ use Rattle.spelling.specs.declared.lines.error.TextError.TheVariants as read
 use Rattle.cert.specs.File.File.{IsFileOf, IsRefusedFile}
 use Rattle.lower.specs.declared.lowering.Lowered.{Lowered}
 use Rattle.completeness.specs.Told.{TellsLimitsAlone}
-use Rattle.completeness.specs.OfPlans.{file_text, IsFileOfPlan}
+use Rattle.completeness.specs.OfPlans.{file_text, IsFileOfPlan, AreStoresSmall}
 use Rattle.commands.specs.declared.pipeline.fault.Fault.{Fault}
 use Rattle.commands.specs.declared.pipeline.fault.Fault.TheVariants.{Memory, Algo, Schedule as NoSchedule, Rule, Names, Plan as Refused, Form, Limit}
 use Rattle.commands.specs.declared.pipeline.fault.Fault.TheVariants.{Order, Image, Budget, Unfinished, Outside, Uncut, Difference}
@@ -49,6 +49,14 @@ module _ (text : List ℕ) (made : Lowered) where
     unread_is_limit : (line : ℕ) → IsUnread text line → IsRefusedFile text (read.Limit line)
     unread_is_limit line (inl form) = absurd (file.formed line (subst (λ t. IsRefusedFile t (read.Form line)) written form))
     unread_is_limit line (inr limit) = limit
+
+    -- where its stores are small, it is read
+    pub read_wrong : (a : Algorithm) → AreStoresSmall p → (fault : Fault) → IsUnaccepted a text fault → (code : K) (line : ℕ) → fault ≡ Refused code line → IsWrong a text code line
+    read_wrong a small fault h code line is = of (subst (IsUnaccepted a text) is h)
+      where
+        of : IsUnaccepted a text (Refused code line) → IsWrong a text code line
+        of (inl wrong) = wrong
+        of (inr unread) = absurd (file.limited line (subst (λ t. IsRefusedFile t (read.Limit line)) written (unread_is_limit line unread.1)) (file.short small))
 
     module _ (a : Algorithm) (limits : TellsLimitsAlone a p c) where
       -- what is wrong with the text is wrong with that plan

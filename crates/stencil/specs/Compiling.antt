@@ -1,19 +1,22 @@
 -- From a schedule to the file of a plan: what a text is read as, and why no plan file comes of it.
-use Rattle.std.specs.Prelude.{◌≡◌, ◌⊎◌, ℕ, List, ⊤}
+use Rattle.std.specs.Prelude.{◌≡◌, ◌⊎◌, ℕ, true, List, ⊤}
 use Rattle.meaning.specs.Algorithm.{Algorithm}
 use Rattle.sched.specs.Schedule.{Schedule}
 use Rattle.sched.specs.Grammar.{IsTextOf}
 use Rattle.sched.specs.Legal.{IsLegal}
 use Rattle.sched.specs.Text.{IsRefused as IsRefusedText}
 use Rattle.sched.specs.declared.error.SchedError.{SchedError}
+use Rattle.lower.specs.Stored.{stored_functions}
+use Rattle.lower.specs.Faults.{are_whole}
 use Rattle.lower.specs.Refused.{AreRegionsKept, AreSmall, AreUsesInside, IsRefused as IsRefusedSchedule}
 use Rattle.lower.specs.Groups.{AreGroupsMade}
 use Rattle.completeness.specs.Laws.{HasOwnLines, WholeStands}
 use Rattle.completeness.specs.Fitting.{SplitsOnce}
 use Rattle.completeness.specs.Told.{SplitsPlainly, TellsLimitsAlone}
-use Rattle.completeness.specs.OfPlans.{file_text, IsFileOfPlan}
+use Rattle.completeness.specs.OfPlans.{file_text, IsFileOfPlan, AreStoresSmall, AreFormulasSmall}
 use Rattle.lower.specs.declared.error.LowerError.{LowerError}
 use Rattle.lower.specs.declared.lowering.Lowered.{Lowered}
+use Rattle.soundness.specs.declared.outline.refusals.code.K.{K}
 use Rattle.soundness.specs.declared.outline.refusals.code.K.TheVariants.{K14}
 use Rattle.plan.specs.View.{plan_of}
 use Rattle.plan.specs.declared.plan.Plan.{Plan as PlanMade}
@@ -52,8 +55,8 @@ pub record IsNotLowered (a : Algorithm) (s : Schedule) (fault : Fault) : Type 0 
 
 -- what `lower` says of the plan that it makes of a legal schedule, and of its certificate, and what follows: each group has a line of what its pieces own;
 -- where whole functions make no inner loop of a split parallel and split none again, these part the cells and are served by those that they need; and where
--- loops are split plainly, whatever the checker tells is a limit; and where they are split once at most, the text is a file of this plan alone, but for the limits
--- of files
+-- loops are split plainly, whatever the checker tells is a limit; where they are split once at most, the text is a file of this plan alone, but for the limits of
+-- files; and the stores of whole functions are small where their definitions are
 pub record IsLowered (a : Algorithm) (s : Schedule) (l : Lowered) : Type 0 where
   pub legal : IsLegal a s
   pub small : AreSmall a s
@@ -64,6 +67,7 @@ pub record IsLowered (a : Algorithm) (s : Schedule) (l : Lowered) : Type 0 where
   pub shares : WholeStands a s l
   pub limits : SplitsPlainly a s → TellsLimitsAlone a (plan_of l.plan) (certificate_of l.certificate)
   pub file : SplitsOnce a s → IsFileOfPlan (plan_of l.plan) (certificate_of l.certificate)
+  pub stores : are_whole (stored_functions a s) ≡ true → AreFormulasSmall a s → AreStoresSmall (plan_of l.plan)
 
 -- the text of the plan that is made of the schedule, with its certificate
 pub record IsPlanText (a : Algorithm) (s : Schedule) (text : List ℕ) : Type 0 where
@@ -96,12 +100,14 @@ IsLimit a text Memory = ⊤
 IsLimit a text (Plan code line) = (code ≡ K14) × (IsWrong a text code line ⊎ IsRefusedFile text (read.Limit line))
 IsLimit a text _ = ⊥
 
--- the schedule is legal, and the text of the plan that is made of it is not accepted: where loops are split plainly, for a limit
+-- the schedule is legal, and the text of the plan that is made of it is not accepted: where loops are split plainly, for a limit; and where they are split once at
+-- most and definitions are small, the text is read, and it is the checker that refuses its plan
 pub record IsRefusedPlan (a : Algorithm) (s : Schedule) (fault : Fault) : Type 0 where
   pub text : List ℕ
   pub of_schedule : IsPlanText a s text
   pub refused : IsUnaccepted a text fault
   pub limit : SplitsPlainly a s → IsLimit a text fault
+  pub wrong : SplitsOnce a s → AreFormulasSmall a s → (code : K) (line : ℕ) → fault ≡ Plan code line → IsWrong a text code line
 
 -- why no plan file comes of a schedule
 abbrev pub IsNotCompiled : Algorithm → Schedule → Fault → Type 0

@@ -15,7 +15,7 @@ use algo::Algo;
 use checked_plan::Checked;
 use commands::pipeline::{BrokenRule, Fault, check_plan};
 use completeness::laws::{own_lines_stand, whole_plans_are_shared};
-use completeness::said::files_are_of_plans;
+use completeness::said::{files_are_of_plans, stores_are_small};
 use completeness::told::faults_are_limits;
 use lower::{LowerError, Lowered, lower};
 use sched::Sched;
@@ -60,6 +60,7 @@ fn lowered(alloc: Global, algo: &Algo, sched: &Sched) -> Result<Lowered, Fault>
     whole_plans_are_shared();
     faults_are_limits();
     files_are_of_plans();
+    stores_are_small();
     match lower(alloc, algo, sched) {
         Ok(lowered) => Ok(lowered),
         Err(error) => Err(refused(error)),

@@ -7,7 +7,7 @@ use Rattle.sched.specs.View.{schedule_of}
 use Rattle.completeness.proofs.LimitsAlone.{splits_once}
 use Rattle.stencil.specs.Compiling.{IsNotLowered, IsUnaccepted}
 use Rattle.commands.specs.Pipeline.PlanFiles.{HasPlan}
-use Rattle.stencil.proofs.Limited.{is_limit}
+use Rattle.stencil.proofs.Limited.{is_limit, read_wrong}
 use Rattle.stencil.proofs.compiling.compile.Goals as goal
 
 pub returns-in_err-plan-clause-refused : goal.returns-in_err-plan-clause-refused
@@ -30,6 +30,8 @@ returns-in_err-accept-clause-refused g c =
       refused = refused;
       limit = λ splits. is_limit c.as_str.result.now c.in_ok-plan.plan (c.in_ok-plan.ensures.made.file (splits_once a (schedule_of c.args.sched.now) splits)) (c.as_str.ensures.value ∙ c.in_ok-file.ensures) a
           (c.in_ok-plan.ensures.made.limits splits) p.0 refused;
+      wrong = λ splits small. read_wrong c.as_str.result.now c.in_ok-plan.plan (c.in_ok-plan.ensures.made.file splits) (c.as_str.ensures.value ∙ c.in_ok-file.ensures) a
+          (c.in_ok-plan.ensures.made.stores splits.whole small) p.0 refused;
     })))
 
 pub returns-clause-of_schedule : goal.returns-clause-of_schedule

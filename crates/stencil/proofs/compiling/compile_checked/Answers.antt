@@ -9,7 +9,7 @@ use Rattle.sched.specs.View.{schedule_of}
 use Rattle.stencil.specs.Compiling.{IsCompiledPlan, IsNotCompiled, IsUnaccepted}
 use Rattle.completeness.proofs.LimitsAlone.{splits_once}
 use Rattle.commands.specs.Pipeline.PlanFiles.{IsAccepted}
-use Rattle.stencil.proofs.Limited.{is_limit, same_plan}
+use Rattle.stencil.proofs.Limited.{is_limit, read_wrong, same_plan}
 use Rattle.stencil.proofs.compiling.compile_checked.Goals as goal
 
 pub returns-clause-refused : goal.returns-clause-refused
@@ -23,6 +23,8 @@ returns-clause-refused g c =
       refused = unaccepted;
       limit = λ splits. is_limit c.as_str.result.now c.in_ok-plan.plan (c.in_ok-plan.ensures.made.file (splits_once a s splits)) (c.as_str.ensures.value ∙ c.in_ok-file.ensures) a
           (c.in_ok-plan.ensures.made.limits splits) fault unaccepted;
+      wrong = λ splits small. read_wrong c.as_str.result.now c.in_ok-plan.plan (c.in_ok-plan.ensures.made.file splits) (c.as_str.ensures.value ∙ c.in_ok-file.ensures) a
+          (c.in_ok-plan.ensures.made.stores splits.whole small) fault unaccepted;
     }))) c.accept.ensures.refused
 
 pub returns-clause-of_schedule : goal.returns-clause-of_schedule

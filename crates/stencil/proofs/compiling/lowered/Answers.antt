@@ -16,6 +16,8 @@ returns-in-Ok-clause-made c = record {
       c.in-Ok.ensures.small c.in-Ok.ensures.regions c.in-Ok.ensures.groups splits c.is_read.ensures.named;
   file = λ splits. c.files_are_of_plans.ensures (algorithm_of c.args.algo.now) (schedule_of c.args.sched.now) c.in-Ok.lowered c.is_well_formed.ensures c.in-Ok.ensures.legal
       c.in-Ok.ensures.small c.in-Ok.ensures.regions c.in-Ok.ensures.groups splits c.is_read.ensures.named c.is_read.ensures.written;
+  stores = λ whole small. c.stores_are_small.ensures (algorithm_of c.args.algo.now) (schedule_of c.args.sched.now) c.in-Ok.lowered c.is_well_formed.ensures c.in-Ok.ensures.legal
+      c.in-Ok.ensures.small c.in-Ok.ensures.regions c.in-Ok.ensures.groups whole small;
 }
 
 pub returns-in-Err-clause-refused : goal.returns-in-Err-clause-refused
