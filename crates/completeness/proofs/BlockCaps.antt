@@ -374,15 +374,15 @@ module _ {A : Type 0} (r' r : A → Option Ready) where
 abbrev pub capped : Span1 → List Form → Span1
 capped y cs = record { lower = y.lower; upper = y.upper ++ cs }
 
-append_assoc : (xs ys zs : List Form) → (xs ++ ys) ++ zs ≡ xs ++ (ys ++ zs)
+pub append_assoc : (xs ys zs : List Form) → (xs ++ ys) ++ zs ≡ xs ++ (ys ++ zs)
 append_assoc [] ys zs = refl
 append_assoc (x ∷ xs) ys zs = ap (λ (fs : List Form). x ∷ fs) (append_assoc xs ys zs)
 
-no_more : (xs : List Form) → xs ++ [] ≡ xs
+pub no_more : (xs : List Form) → xs ++ [] ≡ xs
 no_more [] = refl
 no_more (x ∷ xs) = ap (λ (fs : List Form). x ∷ fs) (no_more xs)
 
-joined_filter : (f : Form → Bool) (xs ys : List Form) → filter f (xs ++ ys) ≡ filter f xs ++ filter f ys
+pub joined_filter : (f : Form → Bool) (xs ys : List Form) → filter f (xs ++ ys) ≡ filter f xs ++ filter f ys
 joined_filter f [] ys = refl
 joined_filter f (x ∷ xs) ys = of (f x) (joined_filter f xs ys)
   where
@@ -394,11 +394,11 @@ joined_filter f (x ∷ xs) ys = of (f x) (joined_filter f xs ys)
 abbrev pub HaveNot : ℕ → List Form → Type 0
 HaveNot i cs = AllByRecursion (λ c. form_has i c ≡ false) cs
 
-naming_none : (i : ℕ) (cs : List Form) → HaveNot i cs → naming i cs ≡ []
+pub naming_none : (i : ℕ) (cs : List Form) → HaveNot i cs → naming i cs ≡ []
 naming_none i [] h = refl
 naming_none i (c ∷ cs) h = (let here = h.0 in let rest = naming_none i cs h.1 in λ j. if here j then c ∷ rest j else rest j)
 
-not_naming_all : (i : ℕ) (cs : List Form) → HaveNot i cs → not_naming i cs ≡ cs
+pub not_naming_all : (i : ℕ) (cs : List Form) → HaveNot i cs → not_naming i cs ≡ cs
 not_naming_all i [] h = refl
 not_naming_all i (c ∷ cs) h = (let here = h.0 in let rest = not_naming_all i cs h.1 in λ j. if not (here j) then c ∷ rest j else rest j)
 
@@ -489,11 +489,11 @@ with_caps ys [] = ys
 with_caps [] (c ∷ cs) = []
 with_caps (y ∷ ys) (c ∷ cs) = capped y c ∷ with_caps ys cs
 
-any_none : (i : ℕ) (cs : List Form) → HaveNot i cs → list_any (form_has i) cs ≡ false
+pub any_none : (i : ℕ) (cs : List Form) → HaveNot i cs → list_any (form_has i) cs ≡ false
 any_none i [] h = refl
 any_none i (c ∷ cs) h = (let here = h.0 in let rest = any_none i cs h.1 in λ j. here j || rest j)
 
-any_joined : (i : ℕ) (us cs : List Form) → HaveNot i cs → list_any (form_has i) (us ++ cs) ≡ list_any (form_has i) us
+pub any_joined : (i : ℕ) (us cs : List Form) → HaveNot i cs → list_any (form_has i) (us ++ cs) ≡ list_any (form_has i) us
 any_joined i [] cs h = any_none i cs h
 any_joined i (u ∷ us) cs h = ap (λ (b : Bool). form_has i u || b) (any_joined i us cs h)
 

@@ -26,7 +26,7 @@ use Rattle.completeness.proofs.UpdateTurns.{all_mapped}
 use Rattle.completeness.proofs.LoopMoves.{false_end, or_none, other_way, Item, item_span, limited_loop, is_lone, step_by, item_step, is_left, AreApart, One, with_it, picks}
 use Rattle.completeness.proofs.LoopMoves.{choice_of, all_loose, none_first, all_true, opened_none}
 use Rattle.completeness.proofs.BlockMoves.{left_in, in_left, of_all, Target, Kept, Sums, is_of, hits_of, FitsTo, ItemFits, OneFits, all_picks, ones_all, now, SumFits, TargetFits, InOrder}
-use Rattle.completeness.proofs.BlockMoves.{names_it, some_names, found_factor, Least, left_one, keeps, taken_is, is_ready, ready_as, BestIs, best_is, opened_all, all_in_order, begins_so}
+use Rattle.completeness.proofs.BlockMoves.{names_it, some_names, found_factor, Least, lowest, left_one, keeps, taken_is, is_ready, ready_as, BestIs, best_is, opened_all, all_in_order, begins_so}
 use Rattle.completeness.proofs.BlockCaps.{bests, IsKind, IsBlocked, TakesNone, TakesOne, same_or_none, same_taken, capped, HaveNot, with_caps, any_capped, taken_capped, ComesTo, Caps, taken_limited}
 
 -- ---- lists
@@ -51,7 +51,7 @@ some_is : {A : Type 0} (a b : A) → Some a ≡ Some b → a ≡ b
 some_is a b e = cc e
 
 -- what is so of all is so of each pick and of the others
-picks_all : (P : Item → Type 0) (ts : List Item) → AllByRecursion P ts → AllByRecursion (λ p. P p.one × AllByRecursion P p.others) (picks ts)
+pub picks_all : (P : Item → Type 0) (ts : List Item) → AllByRecursion P ts → AllByRecursion (λ p. P p.one × AllByRecursion P p.others) (picks ts)
 picks_all P [] h = tt
 picks_all P (t ∷ ts) h = ((h.0, h.1), all_mapped (with_it t) (λ p. P p.one × AllByRecursion P p.others) (picks ts) (each (picks ts) (picks_all P ts h.1)))
   where
@@ -60,7 +60,7 @@ picks_all P (t ∷ ts) h = ((h.0, h.1), all_mapped (with_it t) (λ p. P p.one ×
     each (p ∷ ps) k = ((k.0.0, (h.0, k.0.1)), each ps k.1)
 
 -- each loop is a pick
-picked : (ts : List Item) (u : Item) → In u ts → (q : One) × In q (picks ts) × (q.one ≡ u)
+pub picked : (ts : List Item) (u : Item) → In u ts → (q : One) × In q (picks ts) × (q.one ≡ u)
 picked [] u m = absurd m
 picked (t ∷ ts) u (inl e) = (record { one = t; others = ts }, inl refl, sym e)
 picked (t ∷ ts) u (inr m) = (let r = picked ts u m in (with_it t r.0, inr (mapped (picks ts) r.0 r.1), r.2))
@@ -70,7 +70,7 @@ picked (t ∷ ts) u (inr m) = (let r = picked ts u m in (with_it t r.0, inr (map
     mapped (p ∷ ps) q (inl e) = inl (ap (with_it t) e)
     mapped (p ∷ ps) q (inr k) = inr (mapped ps q k)
 
-lowers_same : (ys : List Span1) (css : List (List Form)) → flat_map (λ (y : Span1). y.lower) (with_caps ys css) ≡ flat_map (λ (y : Span1). y.lower) ys
+pub lowers_same : (ys : List Span1) (css : List (List Form)) → flat_map (λ (y : Span1). y.lower) (with_caps ys css) ≡ flat_map (λ (y : Span1). y.lower) ys
 lowers_same ys [] = refl
 lowers_same [] (c ∷ css) = refl
 lowers_same (y ∷ ys) (c ∷ css) = ap (λ (fs : List Form). y.lower ++ fs) (lowers_same ys css)
@@ -82,7 +82,7 @@ module _ (exact : Bool) (shows : Form → Form → Bool) (i : ℕ) where
   none_any [] h = refl
   none_any (c ∷ cs) h = (let here = h.0 in let rest = none_any cs h.1 in λ j. here j || rest j)
 
-  expanded_capped : (ms us cs : List Form) → HaveNot i cs → expanded exact shows i ms (us ++ cs) ≡ option_map (λ es. es ++ cs) (expanded exact shows i ms us)
+  pub expanded_capped : (ms us cs : List Form) → HaveNot i cs → expanded exact shows i ms (us ++ cs) ≡ option_map (λ es. es ++ cs) (expanded exact shows i ms us)
   expanded_capped ms [] cs h = opened_none exact shows i ms cs (none_any cs h)
   expanded_capped ms (u ∷ us) cs h =
       let rest = expanded_capped ms us cs h in
@@ -101,13 +101,13 @@ module _ (exact : Bool) (shows : Form → Form → Bool) (i : ℕ) where
       of true false xs ys = refl
       of false b xs ys = both (Some (u ∷ [])) ys
 
-  span_capped : (ls us : Option (List Form)) (cs : List Form) → span_from ls (option_map (λ es. es ++ cs) us) ≡ option_map (λ z. capped z cs) (span_from ls us)
+  pub span_capped : (ls us : Option (List Form)) (cs : List Form) → span_from ls (option_map (λ es. es ++ cs) us) ≡ option_map (λ z. capped z cs) (span_from ls us)
   span_capped None us cs = refl
   span_capped (Some ls) None cs = refl
   span_capped (Some ls) (Some us) cs = refl
 
   -- of one form
-  opened_capped : (m : Form) (ys : List Span1) (css : List (List Form)) → AllByRecursion (HaveNot i) css →
+  pub opened_capped : (m : Form) (ys : List Span1) (css : List (List Form)) → AllByRecursion (HaveNot i) css →
       opened exact shows i Min (m ∷ []) (with_caps ys css) ≡ option_map (λ zs. with_caps zs css) (opened exact shows i Min (m ∷ []) ys)
   opened_capped m ys [] h = none (opened exact shows i Min (m ∷ []) ys)
     where
@@ -148,10 +148,10 @@ module _ (lim tops : ℕ → List Form) where
       one [] = refl
       one (f ∷ fs) = refl
 
-  abbrev limited_choice : One → Choice
+  abbrev pub limited_choice : One → Choice
   limited_choice p = record { one = limited_step p.one; others = map limited_step p.others }
 
-  choices_limited : (ts : List Item) → choices (map limited_step ts) ≡ map limited_choice (picks ts)
+  pub choices_limited : (ts : List Item) → choices (map limited_step ts) ≡ map limited_choice (picks ts)
   choices_limited [] = refl
   choices_limited (t ∷ ts) =
       ap (λ (cs : List Choice). record { one = limited_step t; others = map limited_step ts } ∷ cs) (ap (map (behind (limited_step t))) (choices_limited ts) ∙ of (picks ts))
@@ -169,7 +169,7 @@ module _ (lim tops : ℕ → List Form) where
   caps_of ts (Kept y) = []
   caps_of ts (Sums f us) = caps ts us
 
-  all_left_caps : (ts us : List Item) → AllByRecursion (λ u. is_left u.symbol ts ≡ true) us → caps ts us ≡ []
+  pub all_left_caps : (ts us : List Item) → AllByRecursion (λ u. is_left u.symbol ts ≡ true) us → caps ts us ≡ []
   all_left_caps ts [] h = refl
   all_left_caps ts (u ∷ us) h = (let here = h.0 in let rest = all_left_caps ts us h.1 in λ j. (if here j then [] else tops u.symbol) ++ rest j)
 
@@ -409,7 +409,7 @@ module _ (lim tops : ℕ → List Form) where
           plain_lone e = ap (λ (b : Bool). ready (ys ts) (step_by b p.one) (map item_step p.others)) e
 
           plain_comes : is_lone p.one ≡ false → plain_ready ts p ≡ Some (ready_as factor gs targets exact shows p)
-          plain_comes e = ap (λ (b : Bool). ready (ys ts) (step_by b p.one) (map item_step p.others)) e ∙ is_ready factor gs targets exact shows ts p h fit
+          plain_comes e = ap (λ (b : Bool). ready (ys ts) (step_by b p.one) (map item_step p.others)) e ∙ is_ready factor gs targets exact shows ts p h
 
           -- what names it names it with a factor of 2 or more
           tight : AllByRecursion LimitFits p.others → is_loose s around ≡ false → (q : Item) × In q p.others × (g : Form) × IsLimited q g × (form_has s g ≡ true)
@@ -697,6 +697,7 @@ module _ (lim tops : ℕ → List Form) where
         record Moved (ts : List Item) : Type 0 where
           pick : One
           fits : OneFits gs ts pick
+          fit : AllByRecursion (ItemFits gs) pick.others
           limits : AllByRecursion LimitFits pick.others
           order : AllByRecursion (InOrder factor pick.others) gs
           full : AllByRecursion (IsFull pick.others) gs
@@ -707,7 +708,7 @@ module _ (lim tops : ℕ → List Form) where
         module _ (ts : List Item) (p : One) (h : OneFits gs ts p) (fit : AllByRecursion (ItemFits gs) ts) (limit : LimitFits p.one) (turns : is_lone p.one ≡ false)
             (least : Least factor gs targets p ts) (order : AllByRecursion (InOrder factor ts) gs) (full : AllByRecursion (IsFull ts) gs) where
           plain_taken : taken exact shows p.one.symbol (item_span p.one) (ys ts) ≡ Some (ys p.others)
-          plain_taken = taken_is factor gs targets exact shows ts p h fit turns least gs (λ g m. m) h.here.fits targets order h.here.once
+          plain_taken = taken_is factor gs targets exact shows ts p h turns (lowest factor gs targets p ts fit least) gs (λ g m. m) h.here.fits targets order h.here.once
 
           taken_now : taken exact shows p.one.symbol (span p.one.low p.one.last (lim p.one.symbol)) (spans ts) ≡ Some (spans p.others)
           taken_now = of limit
@@ -748,16 +749,13 @@ module _ (lim tops : ℕ → List Form) where
               any_capped t.symbol (ys (t ∷ ts)) (css (t ∷ ts)) (all_caps_not t.symbol (t ∷ ts) gs) ∙ some_names factor (t ∷ ts) t h.there gs h.here.fits targets (omega (arith, once)) in
               let opens : opened exact shows t.symbol Min (number t.low ∷ []) (spans (t ∷ ts)) ≡ Some (spans ts) =
               opened_capped exact shows t.symbol (number t.low) (ys (t ∷ ts)) (css (t ∷ ts)) (all_caps_not t.symbol (t ∷ ts) gs)
-              ∙ ap (option_map (λ zs. with_caps zs (css (t ∷ ts)))) (opened_all factor gs targets exact shows (t ∷ ts) p h lone_fit lone.0 gs (λ g m. m) h.here.fits targets)
+              ∙ ap (option_map (λ zs. with_caps zs (css (t ∷ ts)))) (opened_all factor gs targets exact shows (t ∷ ts) p h lone.0 gs (λ g m. m) h.here.fits targets)
               ∙ (let same = all_caps_same (t ∷ ts) p h none.1 gs in λ j. Some (with_caps (ys ts) (sym same j))) in
               let without_it : without_let exact shows t.symbol Min (number t.low ∷ []) (spans (t ∷ ts)) ≡ Some (spans ts) =
               (λ j. if some j then (if false_end exact j then None else opens j) else Some (spans (t ∷ ts))) in
               (λ j. after_let exact shows (spans (t ∷ ts)) (limited_by (bare_step j) t) (map limited_step ts))
               ∙ ap (λ (b : Bool). after_let exact shows (spans (t ∷ ts)) (step_by b t) (map limited_step ts)) lone.0
               ∙ (λ j. if free j then option_map (λ zs. record { steps = map limited_step ts; spans = zs }) (without_it j) else None)
-            where
-              lone_fit : AllByRecursion (ItemFits gs) (t ∷ ts)
-              lone_fit = (h.here, h.fit)
 
         -- ---- all moves
 
@@ -821,8 +819,9 @@ module _ (lim tops : ℕ → List Form) where
                 record {
                   pick = p;
                   fits = f.0;
+                  fit = (of_all (λ p. ItemFits gs p.one × AllByRecursion (ItemFits gs) p.others) (picks (t ∷ ts)) p (picks_all (ItemFits gs) (t ∷ ts) fit) q.1).1;
                   limits = f.1.1;
-                  order = keeps factor gs targets (t ∷ ts) p f.0 fit (inr q.3) gs (λ g m. m) order;
+                  order = keeps factor gs targets (t ∷ ts) p f.0 (inr (lowest factor gs targets p (t ∷ ts) fit q.3)) gs (λ g m. m) order;
                   full = full_kept (t ∷ ts) p f.0 fit (inr (q.2, q.3)) gs (λ g m. m) full;
                   is = (λ j. or_else (no_guard j) (or_else (no_idle j) (or_else (loop j) (by_let exact shows (state (t ∷ ts))))));
                 }
@@ -838,8 +837,9 @@ module _ (lim tops : ℕ → List Form) where
                 record {
                   pick = p;
                   fits = all.0;
+                  fit = fit.1;
                   limits = limits.1;
-                  order = keeps factor gs targets (t ∷ ts) p all.0 fit (inl lone.0) gs (λ g m. m) order;
+                  order = keeps factor gs targets (t ∷ ts) p all.0 (inl lone.0) gs (λ g m. m) order;
                   full = full_kept (t ∷ ts) p all.0 fit (inl (lone.0, lone)) gs (λ g m. m) full;
                   is = (λ j. or_else (no_guard j) (or_else (no_idle j) (or_else (loop j) (lets j))));
                 }
@@ -852,7 +852,7 @@ module _ (lim tops : ℕ → List Form) where
         run_is (suc n) (t ∷ ts) few apart fit limits order full =
             let m = next_is t ts apart fit limits order full in
             let fewer = m.fits.fewer in
-            ap (option_and_then (run exact shows n)) m.is ∙ run_is n m.pick.others (omega (arith, few, fewer)) m.fits.apart m.fits.fit m.limits m.order m.full
+            ap (option_and_then (run exact shows n)) m.is ∙ run_is n m.pick.others (omega (arith, few, fewer)) m.fits.apart m.fit m.limits m.order m.full
 
         -- each form is that of its coordinate before any loop is taken away
         pub limited_are : (ts : List Item) → AreApart ts → AllByRecursion (ItemFits gs) ts → AllByRecursion LimitFits ts →

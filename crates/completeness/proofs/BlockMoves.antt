@@ -62,7 +62,7 @@ left_out keep s i there gone = of (s == i) refl
     of true k = (let clash : true ≡ false = sym there ∙ ap keep (sym (eq_true s i k)) ∙ gone in absurd (cc clash))
     of false k = k
 
-kept_any : (keep : ℕ → Bool) (i : ℕ) → keep i ≡ true → (xs : List Multiple) → list_any (λ t. t.symbol == i) (filter (λ t. keep t.symbol) xs) ≡ list_any (λ t. t.symbol == i) xs
+pub kept_any : (keep : ℕ → Bool) (i : ℕ) → keep i ≡ true → (xs : List Multiple) → list_any (λ t. t.symbol == i) (filter (λ t. keep t.symbol) xs) ≡ list_any (λ t. t.symbol == i) xs
 kept_any keep i there [] = refl
 kept_any keep i there (t ∷ xs) = of (keep t.symbol) refl (kept_any keep i there xs)
   where
@@ -71,7 +71,7 @@ kept_any keep i there (t ∷ xs) = of (keep t.symbol) refl (kept_any keep i ther
     of true e rest = ap (λ (c : Bool). (t.symbol == i) || c) rest
     of false e rest = rest ∙ sym (ap (λ (c : Bool). c || list_any (λ t. t.symbol == i) xs) (left_out keep t.symbol i there e))
 
-kept_factor : (keep : ℕ → Bool) (i : ℕ) → keep i ≡ true → (xs : List Multiple) → factor_of (filter (λ t. keep t.symbol) xs) i ≡ factor_of xs i
+pub kept_factor : (keep : ℕ → Bool) (i : ℕ) → keep i ≡ true → (xs : List Multiple) → factor_of (filter (λ t. keep t.symbol) xs) i ≡ factor_of xs i
 kept_factor keep i there [] = refl
 kept_factor keep i there (t ∷ xs) = of (keep t.symbol) refl (kept_factor keep i there xs)
   where
@@ -81,7 +81,7 @@ kept_factor keep i there (t ∷ xs) = of (keep t.symbol) refl (kept_factor keep 
     of false e rest =
         rest ∙ nothing_more (factor_of xs i) ∙ sym (ap (λ (c : Bool). (if c then t.factor else pos 0) +ℤ factor_of xs i) (left_out keep t.symbol i there e))
 
-kept_twice : (g h : ℕ → Bool) (xs : List Multiple) → filter (λ t. g t.symbol) (filter (λ t. h t.symbol) xs) ≡ filter (λ t. h t.symbol && g t.symbol) xs
+pub kept_twice : (g h : ℕ → Bool) (xs : List Multiple) → filter (λ t. g t.symbol) (filter (λ t. h t.symbol) xs) ≡ filter (λ t. h t.symbol && g t.symbol) xs
 kept_twice g h [] = refl
 kept_twice g h (t ∷ xs) = of (h t.symbol) (g t.symbol) refl (kept_twice g h xs)
   where
@@ -192,7 +192,6 @@ pub record OneFits (gs : List Target) (ts : List Item) (p : One) : Type 0 where
   pub here : ItemFits gs p.one
   pub loose : is_left p.one.symbol p.others ≡ false
   pub apart : AreApart p.others
-  pub fit : AllByRecursion (ItemFits gs) p.others
   pub there : is_left p.one.symbol ts ≡ true
   pub same : (i : ℕ) → (p.one.symbol == i) ≡ false → is_left i p.others ≡ is_left i ts
   pub fewer : suc (length p.others) ≡ length ts
@@ -204,7 +203,6 @@ all_picks gs (t ∷ ts) apart fit = (
     here = fit.0;
     loose = apart.0;
     apart = apart.1;
-    fit = fit.1;
     there = ap (λ (b : Bool). b || is_left t.symbol ts) (eq_refl t.symbol);
     same = λ i e. sym (ap (λ (b : Bool). b || is_left i ts) e);
     fewer = refl;
@@ -230,7 +228,6 @@ all_picks gs (t ∷ ts) apart fit = (
             here = k.here;
             loose = (λ i. away i || k.loose i);
             apart = (k.same t.symbol (other_way t.symbol p.one.symbol away) ∙ apart.0, k.apart);
-            fit = (fit.0, k.fit);
             there = ap (λ (b : Bool). (t.symbol == p.one.symbol) || b) k.there ∙ true_end (t.symbol == p.one.symbol);
             same = λ i e. ap (λ (b : Bool). (t.symbol == i) || b) (k.same i e);
             fewer = ap suc k.fewer;
@@ -602,7 +599,7 @@ module _ (factor : ℕ → ℤ) where
               between w a b e few one two = omega (arith, ints, e, few, one, two)
 
       -- a let of one form
-      opened_is : is_lone p.one ≡ true →
+      pub opened_is : is_lone p.one ≡ true →
           span_from (expanded exact shows i (number p.one.low ∷ []) (now ts (Sums f us)).lower) (expanded exact shows i (number p.one.low ∷ []) (now ts (Sums f us)).upper)
           ≡ Some (now p.others (Sums f us))
       opened_is lone =
@@ -651,8 +648,15 @@ module _ (factor : ℕ → ℤ) where
         let same : (u.symbol == q.0.symbol) ≡ true = ap (λ (i : ℕ). u.symbol == i) (eq_true q.0.symbol u.symbol q.2) ∙ eq_refl u.symbol in
         subst (λ (v : Item). In v ts) (sym (fits.0 u there same)) q.1
 
+    -- so of the loops that are left of the coordinates
+    abbrev pub Lowest : One → List Item → Type 0
+    Lowest p ts = (f : Form) (us : List Item) → In (Sums f us) gs → (u : Item) → In u us → is_left u.symbol ts ≡ true → is_lone u ≡ false → factor p.one.symbol ≤ℤ factor u.symbol
+
+    pub lowest : (p : One) (ts : List Item) → AllByRecursion (ItemFits gs) ts → Least p ts → Lowest p ts
+    lowest p ts fit least f us m u mu left turns = of_all (λ q. is_lone q ≡ false → factor p.one.symbol ≤ℤ factor q.symbol) ts u least (left_one ts fit f us m u mu left) turns
+
     -- the numbers so far are as many as the factor says
-    module _ (ts : List Item) (p : One) (h : OneFits gs ts p) (fit : AllByRecursion (ItemFits gs) ts) (turns : is_lone p.one ≡ false) (least : Least p ts) (f : Form) (us : List Item)
+    module _ (ts : List Item) (p : One) (h : OneFits gs ts p) (turns : is_lone p.one ≡ false) (least : Lowest p ts) (f : Form) (us : List Item)
         (m : In (Sums f us) gs) (order : InOrder ts (Sums f us)) (mine : is_left p.one.symbol us ≡ true) where
       own : FitsTo p.one (Sums f us)
       own = of_all (FitsTo p.one) gs (Sums f us) h.here.fits m
@@ -700,7 +704,7 @@ module _ (factor : ℕ → ℤ) where
               (if is_left u.symbol ts then pos 0 else x) ≡ (if is_left u.symbol ts then pos 0 else y) +ℤ (if int_le (factor u.symbol +ℤ pos 1) size then x -ℤ y else pos 0)
           of true e b k = head_lone (is_left u.symbol ts) (int_le (factor u.symbol +ℤ pos 1) size) x y (ap (λ (z : ℤ). factor u.symbol *ℤ z) (sym (lone_ends u e)))
           of false e true k =
-              let le = of_all (λ q. is_lone q ≡ false → size ≤ℤ factor q.symbol) ts u least (left_one ts fit f us m u mu k) e in
+              let le = least f us m u mu k e in
               head_left (is_left u.symbol ts) (int_le (factor u.symbol +ℤ pos 1) size) x y k (not_le (factor u.symbol +ℤ pos 1) size (above_one size (factor u.symbol) le))
           of false e false k =
               let le = order u p.one mu there e turns k h.there in
@@ -717,7 +721,7 @@ module _ (factor : ℕ → ℤ) where
       wide_is = widths us (λ u k. k) ∙ ap (λ (z : ℤ). added (λ u. u.low) ts us +ℤ z) ((of_all TargetFits gs (Sums f us) targets m).radix p.one there turns)
 
     -- the order stays
-    module _ (ts : List Item) (p : One) (h : OneFits gs ts p) (fit : AllByRecursion (ItemFits gs) ts) (first : (is_lone p.one ≡ true) ⊎ Least p ts) where
+    module _ (ts : List Item) (p : One) (h : OneFits gs ts p) (first : (is_lone p.one ≡ true) ⊎ Lowest p ts) where
       keeps_sums : (f : Form) (us : List Item) → In (Sums f us) gs → InOrder ts (Sums f us) → InOrder p.others (Sums f us)
       keeps_sums f us m order u v mu mv one two gone left = by (u.symbol == p.one.symbol) refl
         where
@@ -736,11 +740,11 @@ module _ (factor : ℕ → ℤ) where
           still : is_left v.symbol ts ≡ true
           still = sym (h.same v.symbol differs) ∙ left
 
-          later : u ≡ p.one → (b : Bool) → int_le (factor u.symbol +ℤ pos 1) (factor v.symbol) ≡ b → (is_lone p.one ≡ true) ⊎ Least p ts → (factor u.symbol +ℤ pos 1) ≤ℤ factor v.symbol
+          later : u ≡ p.one → (b : Bool) → int_le (factor u.symbol +ℤ pos 1) (factor v.symbol) ≡ b → (is_lone p.one ≡ true) ⊎ Lowest p ts → (factor u.symbol +ℤ pos 1) ≤ℤ factor v.symbol
           later is b e (inl lone) = (let clash : true ≡ false = sym lone ∙ ap is_lone (sym is) ∙ one in absurd (cc clash))
           later is true e (inr least) = le_is (factor u.symbol +ℤ pos 1) (factor v.symbol) e
           later is false e (inr least) =
-              let le = of_all (λ q. is_lone q ≡ false → factor p.one.symbol ≤ℤ factor q.symbol) ts v least (left_one ts fit f us m v mv still) two in
+              let le = least f us m v mv still two in
               let same : factor u.symbol ≡ factor p.one.symbol = ap (λ (w : Item). factor w.symbol) is in
               let under_it = le_not (factor u.symbol +ℤ pos 1) (factor v.symbol) e in
               let equal : factor u.symbol ≡ factor v.symbol = omega (arith, ints, le, same, under_it) in
@@ -769,16 +773,16 @@ module _ (factor : ℕ → ℤ) where
           of true e k rest = absurd (omega (arith, k))
           of false e k rest = (let here = same_now p ts h.same g e in let more = rest (omega (arith, k)) in λ j. here j ∷ more j)
 
-      module _ (ts : List Item) (p : One) (h : OneFits gs ts p) (fit : AllByRecursion (ItemFits gs) ts) where
+      module _ (ts : List Item) (p : One) (h : OneFits gs ts p) where
         -- the one coordinate comes to its numbers
-        taken_one : is_lone p.one ≡ false → Least p ts → (g : Target) → In g gs → InOrder ts g → is_of p.one.symbol g ≡ true →
+        pub taken_one : is_lone p.one ≡ false → Lowest p ts → (g : Target) → In g gs → InOrder ts g → is_of p.one.symbol g ≡ true →
             over_loop exact shows p.one.symbol (item_span p.one) (now ts g) ≡ Some (now p.others g)
         taken_one turns least (Kept y) m order e = absurd (cc e)
         taken_one turns least (Sums f us) m order e =
             over_is p ts h.same h.loose h.there h.here.near h.here.last_near f us (of_all (FitsTo p.one) gs (Sums f us) h.here.fits m) (of_all TargetFits gs (Sums f us) targets m) e exact shows
-            (wide_is ts p h fit turns least f us m order e)
+            (wide_is ts p h turns least f us m order e)
 
-        pub taken_is : is_lone p.one ≡ false → Least p ts → (hs : List Target) → ((g : Target) → In g hs → In g gs) → AllByRecursion (FitsTo p.one) hs → AllByRecursion TargetFits hs →
+        pub taken_is : is_lone p.one ≡ false → Lowest p ts → (hs : List Target) → ((g : Target) → In g hs → In g gs) → AllByRecursion (FitsTo p.one) hs → AllByRecursion TargetFits hs →
             AllByRecursion (InOrder ts) hs → hits_of p.one.symbol hs ≡ 1 → taken exact shows p.one.symbol (item_span p.one) (map (now ts) hs) ≡ Some (map (now p.others) hs)
         taken_is turns least [] sub fits sums order once = absurd (omega (arith, once))
         taken_is turns least (g ∷ hs) sub fits sums order once =
@@ -915,7 +919,7 @@ module _ (factor : ℕ → ℤ) where
               let none : mine ≡ None = ap (λ (b : Bool). ready (map (now ts) gs) (step_by b p.one) (map item_step p.others)) e in
               inr (q.0, ap (λ (o : Option Ready). preferred o rest_of) none ∙ q.1, q.2, q.3, ((λ turned. let clash : true ≡ false = sym e ∙ turned in absurd (cc clash)), q.4))
           of false e rest =
-              by e (ap (λ (b : Bool). ready (map (now ts) gs) (step_by b p.one) (map item_step p.others)) e ∙ is_ready ts p h.0 fit) rest
+              by e (ap (λ (b : Bool). ready (map (now ts) gs) (step_by b p.one) (map item_step p.others)) e ∙ is_ready ts p h.0) rest
 
     -- before any loop is taken away none is gone
     pub all_in_order : (ts : List Item) → (hs : List Target) → AllByRecursion (λ g. (i : ℕ) → is_of i g ≡ true → is_left i ts ≡ true) hs → AllByRecursion (InOrder ts) hs

@@ -76,7 +76,7 @@ either_true false b e = inr e
 
 -- ---- terms that are kept
 
-kept_first : (keep : ℕ → Bool) (s : ℕ) (c : ℤ) (m : ℕ) → keep s ≡ true → keep m ≡ false →
+pub kept_first : (keep : ℕ → Bool) (s : ℕ) (c : ℤ) (m : ℕ) → keep s ≡ true → keep m ≡ false →
     filter (λ t. keep t.symbol) (if nat_lt s m then multiple s c ∷ multiple m (pos 1) ∷ [] else multiple m (pos 1) ∷ multiple s c ∷ []) ≡ multiple s c ∷ []
 kept_first keep s c m there gone = of (nat_lt s m)
   where
@@ -84,7 +84,7 @@ kept_first keep s c m there gone = of (nat_lt s m)
     of true = λ j. if there j then multiple s c ∷ (if gone j then multiple m (pos 1) ∷ [] else []) else (if gone j then multiple m (pos 1) ∷ [] else [])
     of false = λ j. if gone j then multiple m (pos 1) ∷ (if there j then multiple s c ∷ [] else []) else (if there j then multiple s c ∷ [] else [])
 
-kept_neither : (keep : ℕ → Bool) (s : ℕ) (c : ℤ) (m : ℕ) → keep s ≡ false → keep m ≡ false →
+pub kept_neither : (keep : ℕ → Bool) (s : ℕ) (c : ℤ) (m : ℕ) → keep s ≡ false → keep m ≡ false →
     filter (λ t. keep t.symbol) (if nat_lt s m then multiple s c ∷ multiple m (pos 1) ∷ [] else multiple m (pos 1) ∷ multiple s c ∷ []) ≡ []
 kept_neither keep s c m one two = of (nat_lt s m)
   where
@@ -92,12 +92,12 @@ kept_neither keep s c m one two = of (nat_lt s m)
     of true = λ j. if one j then multiple s c ∷ (if two j then multiple m (pos 1) ∷ [] else []) else (if two j then multiple m (pos 1) ∷ [] else [])
     of false = λ j. if two j then multiple m (pos 1) ∷ (if one j then multiple s c ∷ [] else []) else (if one j then multiple s c ∷ [] else [])
 
-no_more : (fs : List Form) → fs ++ [] ≡ fs
+pub no_more : (fs : List Form) → fs ++ [] ≡ fs
 no_more [] = refl
 no_more (f ∷ fs) = ap (λ (gs : List Form). f ∷ gs) (no_more fs)
 
 -- a position without the symbol within its block
-without_pair : (z : ℤ) (s : ℕ) (c : ℤ) (m : ℕ) → (s == m) ≡ false → without (pair z s c m) m ≡ one_of z c s
+pub without_pair : (z : ℤ) (s : ℕ) (c : ℤ) (m : ℕ) → (s == m) ≡ false → without (pair z s c m) m ≡ one_of z c s
 without_pair z s c m differ = of (nat_lt s m)
   where
     here : (m == m) ≡ true
@@ -116,7 +116,7 @@ without_pair z s c m differ = of (nat_lt s m)
     }
 
 -- the first number of a block and what is left up to the last one
-left_comes : (last low c : ℤ) (s : ℕ) → unsigned_abs last ≤ 2 ^ 36 → unsigned_abs low ≤ 2 ^ 36 → unsigned_abs c ≤ 1024 →
+pub left_comes : (last low c : ℤ) (s : ℕ) → unsigned_abs last ≤ 2 ^ 36 → unsigned_abs low ≤ 2 ^ 36 → unsigned_abs c ≤ 1024 →
     combined (one_of low c s) (pos 1) (left_over last low c s) ≡ Some (number last)
 left_comes last low c s last_near low_near few =
     let once : pos 1 *ℤ (negsuc 0 *ℤ c) ≡ negsuc 0 *ℤ c = one_time (negsuc 0 *ℤ c) in
@@ -182,18 +182,18 @@ module _ (xs : List (List ℕ)) (ls : List Loop) (cuts : List Split) (rs : List 
       (found_not (λ c. is_half c y) cuts (λ d k. (let h = halves d k y m in let one = apart_name d.outer y (λ e. h.0 (sym e)) in let two = apart_name d.inner y (λ e. h.1 (sym e)) in
       λ j. one j || two j)))
 
-  factor_outer : (c : Split) → In c cuts → factor_named c.outer ≡ pos c.factor
+  pub factor_outer : (c : Split) → In c cuts → factor_named c.outer ≡ pos c.factor
   factor_outer c m =
       let r = found_in (λ d. same_name d.outer c.outer) cuts c m (name_refl c.outer) in
       ap (λ (o : Option Split). elim o [ Some c ↦ pos c.factor | None ↦ pos 1 ]) r.3
       ∙ ap (λ (d : Split). pos d.factor) (outers r.0 c r.1 m (name_true r.0.outer c.outer r.2))
 
-  factor_inner : (c : Split) → In c cuts → factor_named c.inner ≡ pos 1
+  pub factor_inner : (c : Split) → In c cuts → factor_named c.inner ≡ pos 1
   factor_inner c m =
       ap (λ (o : Option Split). elim o [ Some c ↦ pos c.factor | None ↦ pos 1 ])
       (found_not (λ d. same_name d.outer c.inner) cuts (λ d k. apart_name d.outer c.inner (λ e. inner_outer cuts others c d m k (sym e))))
 
-  factor_self : (y : List ℕ) → In y xs → factor_named y ≡ pos 1
+  pub factor_self : (y : List ℕ) → In y xs → factor_named y ≡ pos 1
   factor_self y m =
       ap (λ (o : Option Split). elim o [ Some c ↦ pos c.factor | None ↦ pos 1 ])
       (found_not (λ d. same_name d.outer y) cuts (λ d k. apart_name d.outer y (λ e. (halves d k y m).0 (sym e))))
@@ -204,13 +204,13 @@ module _ (xs : List (List ℕ)) (ls : List Loop) (cuts : List Split) (rs : List 
 
   -- ---- the loops of a nest
 
-  abbrev low : List ℕ → ℤ
+  abbrev pub low : List ℕ → ℤ
   low y = (numbers_named rs y).low
 
-  abbrev last : List ℕ → ℤ
+  abbrev pub last : List ℕ → ℤ
   last y = last_number (numbers_named rs y)
 
-  abbrev count : List ℕ → ℕ
+  abbrev pub count : List ℕ → ℕ
   count y = (numbers_named rs y).count
 
   pub record IsTurnOf (grid : List Known) (t : Turning) : Type 0 where
@@ -238,7 +238,7 @@ module _ (xs : List (List ℕ)) (ls : List Loop) (cuts : List Split) (rs : List 
       (found_not (λ c. is_half c t.name) cuts (λ d k. (let one = apart_name d.outer t.name (λ e. o.half d k (inl (sym e))) in let two = apart_name d.inner t.name (λ e. o.half d k (inr (sym e))) in
       λ j. one j || two j)))
 
-  nest_own : (grid : List Known) (t : Turning) → IsNestTurn grid t → form_named grid t.name ≡ None
+  pub nest_own : (grid : List Known) (t : Turning) → IsNestTurn grid t → form_named grid t.name ≡ None
   nest_own grid t (inl o) = o.own
   nest_own grid t (inr o) = o.own
 
@@ -247,7 +247,7 @@ module _ (xs : List (List ℕ)) (ls : List Loop) (cuts : List Split) (rs : List 
   turn_of grid t x m e (inl o) = o
   turn_of grid t x m e (inr o) = absurd (o.apart x m e)
 
-  half_of : (grid : List Known) (t : Turning) (c : Split) → In c cuts → (t.name ≡ c.outer) ⊎ (t.name ≡ c.inner) → IsNestTurn grid t → IsTurnOf grid t
+  pub half_of : (grid : List Known) (t : Turning) (c : Split) → In c cuts → (t.name ≡ c.outer) ⊎ (t.name ≡ c.inner) → IsNestTurn grid t → IsTurnOf grid t
   half_of grid t c m h (inl o) = o
   half_of grid t c m h (inr o) = absurd (o.half c m h)
 

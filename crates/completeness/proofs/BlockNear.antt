@@ -65,7 +65,7 @@ use Rattle.completeness.specs.Simple.{is_simple, are_simple, is_simple_left, has
 use Rattle.completeness.specs.Placed.{IsSettled, ArePlaced, AreLeftsHeld, AreOwnHeld}
 use Rattle.completeness.proofs.LeftHeld.{lefts_held, owns_held}
 use Rattle.completeness.specs.Blocked.{is_tailed, makes_line, IsKept}
-use Rattle.completeness.specs.Filled.{AreEndsShort, IsNearOrSimple, NearBlockedGroupsOweShown}
+use Rattle.completeness.specs.Filled.{AreEndsShort}
 use Rattle.completeness.proofs.Owned.{some_same, same_extents, same_skeleton}
 use Rattle.completeness.proofs.Served.{roots, made_at}
 use Rattle.completeness.proofs.NamedClaims.{alone_body}
@@ -642,20 +642,14 @@ module _ (a : Algorithm) (sch : Schedule) (l : Lowered) (well : IsAlgorithm a) (
         light_behind : AllByRecursion (IsLightIf (bind_steps (head_scope k) w.steps)) w.at
         light_behind = subst (λ (scope : List Binding). AllByRecursion (IsLightIf (bind_steps scope w.steps)) w.at) (sym over_head) all_light
 
-        simple_here : SimpleIndices fs → (f : FormulaText) → slice_get fs d ≡ Some f → has_simple_indices f ≡ true
-        simple_here simple f e = all_get (λ (y : FormulaText). has_simple_indices y ≡ true) fs d f simple e
+        calls_light : IsNearRegion h.extents → (f : FormulaText) → slice_get fs d ≡ Some f → (r : AroundText) → around a g (head_scope k) w f d ≡ Some r → AreCallsLight a r (calls_in f)
+        calls_light near f e = few_calls_light a g (head_scope k) w f d (near_weights near) (inl plain_here)
 
-        calls_light : IsNearOrSimple g fs h.extents → (f : FormulaText) → slice_get fs d ≡ Some f → (r : AroundText) → around a g (head_scope k) w f d ≡ Some r → AreCallsLight a r (calls_in f)
-        calls_light (inl near) f e = few_calls_light a g (head_scope k) w f d (near_weights near) (inl plain_here)
-        calls_light (inr simple) f e = simple_light a g (head_scope k) w f d (simple_here simple.0 f e) light_behind
-
-        left_light : IsNearOrSimple g fs h.extents → (f : FormulaText) → slice_get fs d ≡ Some f → (j : ℕ) (e : Term) → left_at f j ≡ Some e → (s : Span1) →
+        left_light : IsNearRegion h.extents → (f : FormulaText) → slice_get fs d ≡ Some f → (j : ℕ) (e : Term) → left_at f j ≡ Some e → (s : Span1) →
             interval_in a (left_around g (head_scope k) w d) e ≡ Some s → IsLightSpan (bind_steps (head_scope k) w.steps) s
-        left_light (inl near) f at_f j e at_j s found = span_light (bind_steps (head_scope k) w.steps) (near_weights near) (inl plain_here) s
-        left_light (inr simple) f at_f j e at_j s found =
-            kept_light (bind_steps (head_scope k) w.steps) s (lefts_light a g (head_scope k) w f d (simple_here simple.0 f at_f) light_behind j e at_j s found)
+        left_light near f at_f j e at_j s found = span_light (bind_steps (head_scope k) w.steps) (near_weights near) (inl plain_here) s
 
-    boxed_here : IsNearOrSimple g fs h.extents → (d : ℕ) (w : NestText) → slice_get k.nests d ≡ Some w →
+    boxed_here : IsNearRegion h.extents → (d : ℕ) (w : NestText) → slice_get k.nests d ≡ Some w →
         ((b : BodyText) → slice_get bs d ≡ Some b → AllByRecursion IsBoxTurn b.ranges) → IsIndexed a g fs k d w
     boxed_here close d w stands ranges =
         let v = shape_here.nests d w stands in
@@ -680,7 +674,7 @@ module _ (a : Algorithm) (sch : Schedule) (l : Lowered) (well : IsAlgorithm a) (
         by z n w h k q = omega (arith, ints, h, k, q)
 
     -- so what is fetched holds the calls
-    held_here : IsNearOrSimple g fs h.extents → (m : LaidText) → slice_get (laid_functions a gs) n ≡ Some (Some m) → m.skeleton ≡ k → skeleton_of g fs m.region ≡ Some m.skeleton →
+    held_here : IsNearRegion h.extents → (m : LaidText) → slice_get (laid_functions a gs) n ≡ Some (Some m) → m.skeleton ≡ k → skeleton_of g fs m.region ≡ Some m.skeleton →
         g.formulas ≡ Some fs →
         ArePlaced a g fs m → AreHeld a gs n g fs m.skeleton × AreEndsShort rs cuts × AreLeftsHeld a g fs m.region m.skeleton × AreOwnHeld a g fs m.region m.skeleton
     held_here close m found_there same_skeleton_so over defined settled =
@@ -691,14 +685,14 @@ module _ (a : Algorithm) (sch : Schedule) (l : Lowered) (well : IsAlgorithm a) (
         λ d w stands ranges. subst (λ (y : SkeletonText). IsIndexed a g fs y d w) (sym same_skeleton_so)
         (boxed_here close d w (ap (λ (y : SkeletonText). slice_get y.nests d) (sym same_skeleton_so) ∙ stands) ranges) in (
           held_near a sch l well legal small kept all groups n g at fs defined m found_there over forms boxes,
-          elim close [ inl near ↦ ends_short near | inr simple ↦ simple.1 ],
+          ends_short close,
           lefts_held a sch l well legal small kept all groups n g at fs defined m found_there over forms boxes settled,
           owns_held a sch l well legal small kept all groups n g at fs defined m found_there over forms boxes settled,
         )
 
   -- of a group of the plan
   pub blocked_held : (n : ℕ) (q : CodeGroup) → slice_get l.plan.groups.items n ≡ Some q → (u : StoredText) → slice_get gs n ≡ Some u → IsKept a sch n u → (fs : List FormulaText) →
-      u.formulas ≡ Some fs → (m : LaidText) → slice_get (laid_functions a gs) n ≡ Some (Some m) → ArePlaced a u fs m → IsNearOrSimple u fs m.region →
+      u.formulas ≡ Some fs → (m : LaidText) → slice_get (laid_functions a gs) n ≡ Some (Some m) → ArePlaced a u fs m → IsNearRegion m.region →
       AreHeld a gs n u fs m.skeleton × AreEndsShort (loop_numbers u.subject.variables u.placed.cuts m.region) u.placed.cuts × AreLeftsHeld a u fs m.region m.skeleton
       × AreOwnHeld a u fs m.region m.skeleton
   blocked_held n q theirs u at blocked fs defined m found_there set near =
@@ -724,10 +718,7 @@ module _ (a : Algorithm) (sch : Schedule) (l : Lowered) (well : IsAlgorithm a) (
       let filled : AllByRecursion (λ c. makes_line me.stored.placed.loops (loop_numbers me.stored.subject.variables me.stored.placed.cuts body.extents) c ≡ false) me.stored.placed.cuts =
       subst (λ (es : List Extent). AllByRecursion (λ c. makes_line me.stored.placed.loops (loop_numbers me.stored.subject.variables me.stored.placed.cuts es) c ≡ false) me.stored.placed.cuts) extents
       (mine.filled me.laid me.found) in
-      let close_here : IsNearOrSimple me.stored body.formulas body.extents =
-      subst (IsNearOrSimple me.stored body.formulas) extents
-      (subst (λ (y : LaidText). IsNearOrSimple me.stored body.formulas y.region) (sym region)
-      (subst (λ (vs : List FormulaText). IsNearOrSimple me.stored vs m.region) (sym formulas) (subst (λ (y : StoredText). IsNearOrSimple y fs m.region) (sym stored) near))) in
+      let close_here : IsNearRegion body.extents = subst IsNearRegion extents (subst (λ (y : LaidText). IsNearRegion y.region) (sym region) near) in
       let few_here : AllByRecursion IsFew body.extents = subst (AllByRecursion IsFew) extents (regions_few a gs n me.laid all me.found) in
       let over : skeleton_of me.stored body.formulas me.laid.region ≡ Some me.laid.skeleton =
       subst (λ (vs : List FormulaText). skeleton_of me.stored vs me.laid.region ≡ Some me.laid.skeleton)
@@ -752,9 +743,3 @@ module _ (a : Algorithm) (sch : Schedule) (l : Lowered) (well : IsAlgorithm a) (
       (subst (λ (vs : List FormulaText). AreOwnHeld a u vs me.laid.region me.laid.skeleton) formulas
       (subst (λ (y : StoredText). AreOwnHeld a y body.formulas me.laid.region me.laid.skeleton) stored here.3)) in
       (held_there, short_there, lefts_there, own_there)
-
-pub near_blocked_owed : NearBlockedGroupsOweShown
-near_blocked_owed a s l well legal small regions groups all free told grids few near n g at u stands blocked fs defined r laid set close =
-    let x = from_map group_of l.plan.groups.items n g at in
-    let h = blocked_held a s l well legal small (regions all).0 all groups n x.0 x.1 u stands blocked fs defined r laid set close in
-    blocked_owed a s l well legal small regions groups all free told grids few near n g at u stands blocked fs defined r laid h.2 h.3 h.0 h.1

@@ -1,7 +1,7 @@
 -- Of functions whose loops are split once, by blocks that need no line of their own: all that the lines of their groups owe is shown, where what is fetched holds the calls, and left indices
 -- that are no variables lie in their dimensions.
-use Rattle.std.proofs.Common.{◌≡◌, ℕ, ◌+◌, ◌<◌, ◌≤◌, Bool, true, false, ◌&&◌, not, ◌∷◌, List, [], length, map, Some, None, sym, ap, ◌∙◌, subst, arith, ◌||◌}
-use Rattle.std.specs.Prelude.{string_bytes, slice_get}
+use Rattle.std.proofs.Common.{◌≡◌, ℕ, ◌+◌, ◌<◌, ◌≤◌, Bool, true, false, ◌&&◌, not, ◌∷◌, List, [], length, map, Some, None, sym, ap, ◌∙◌, subst, arith, ◌||◌, refl}
+use Rattle.std.specs.Prelude.{string_bytes, if◌then◌else◌, slice_get}
 use Rattle.std.specs.List.{AllByRecursion}
 use Rattle.lin.specs.declared.span.Span1.{Span1}
 use Rattle.plan.specs.declared.plan.Group.{Group as CodeGroup}
@@ -64,7 +64,7 @@ use Rattle.completeness.proofs.RegionBounds.{IsEnded, region_ends, root_bounded}
 use Rattle.completeness.proofs.StoreBounds.{Shows}
 use Rattle.completeness.specs.Parted.{KeepsInner}
 use Rattle.completeness.specs.Nested.{SayYes, TakeSplit}
-use Rattle.completeness.specs.Blocked.{makes_line, is_entered}
+use Rattle.completeness.specs.Blocked.{AreShiftsInside}
 use Rattle.completeness.specs.Filled.{AreEndsShort, BlockedGroupsOweShown}
 use Rattle.completeness.proofs.NamedClaims.{alone_body}
 use Rattle.completeness.proofs.NestWalk.{LetsFirst}
@@ -75,6 +75,7 @@ use Rattle.tree.specs.Term.{Term}
 use Rattle.lin.specs.Forms.{number}
 use Rattle.std.specs.Prelude.{◌==◌}
 use Rattle.std.specs.List.{list_any}
+use Rattle.meaning.specs.Names.{same_name}
 use Rattle.plan.specs.declared.stmt.Places.TheVariants.{From}
 use Rattle.sched.specs.declared.placing.Loop.{Loop}
 use Rattle.sched.specs.Placing.{is_parallel, is_scattered}
@@ -83,8 +84,8 @@ use Rattle.completeness.proofs.PureNests.{all_in}
 use Rattle.completeness.proofs.RangedLefts.{left_of_update}
 use Rattle.completeness.proofs.Unparallel.{apart, scattered_there}
 use Rattle.completeness.proofs.WholeDims.{whole_dimension}
-use Rattle.completeness.proofs.BlockUpdates.{yes_at}
-use Rattle.completeness.proofs.PlainTurns.{hits}
+use Rattle.completeness.proofs.TailShown.{yes_at}
+use Rattle.completeness.proofs.PlainTurns.{hits, one_if}
 use Rattle.completeness.proofs.PureNests.{loop_name}
 use Rattle.sched.specs.Numbers.{parallel_loops, is_too_short}
 use Rattle.sched.specs.declared.schedule.Tail.{Tail}
@@ -95,17 +96,20 @@ use Rattle.completeness.proofs.StoreShapes as nests_of
 use Rattle.completeness.proofs.StoreTails as tails_of
 use Rattle.completeness.proofs.PlacedStores as stores_of
 
--- no split that makes no line of its own is with `shift`
-not_shifted : (ls : List Loop) (rs : List Numbers) (cs : List Split) → AllByRecursion (λ c. makes_line ls rs c ≡ false) cs →
-    AllByRecursion (λ c. is_shifted c ≡ true → hits loop_name c.outer (parallel_loops ls) ≡ 0) cs
-not_shifted ls rs [] h = tt
-not_shifted ls rs (c ∷ cs) h = ((λ e. absurd (of c.tail e h.0)), not_shifted ls rs cs h.1)
+-- no shifted split's outer loop is over the grid
+none_over : (ls : List Loop) (y : List ℕ) → list_any (λ l. is_parallel l && same_name l.name y) ls ≡ false → hits loop_name y (parallel_loops ls) ≡ 0
+none_over [] y h = refl
+none_over (l ∷ ls) y h = of (is_parallel l) (same_name l.name y) refl h (none_over ls y)
   where
-    of : (t : Tail) → (elim t [ Shift ↦ true | Guard ↦ false | Roundup ↦ false ]) ≡ true →
-        (elim t [ Guard ↦ has_rest c (numbers_named rs c.whole).count && not (is_entered ls c) | Roundup ↦ false | Shift ↦ true ]) ≡ false → ⊥
-    of Guard q r = cc q
-    of Roundup q r = cc q
-    of Shift q r = cc r
+    of : (p q : Bool) → same_name l.name y ≡ q → ((p && q) || list_any (λ l. is_parallel l && same_name l.name y) ls) ≡ false →
+        (list_any (λ l. is_parallel l && same_name l.name y) ls ≡ false → hits loop_name y (parallel_loops ls) ≡ 0) → hits loop_name y (if p then l ∷ parallel_loops ls else parallel_loops ls) ≡ 0
+    of true true e k rest = absurd (cc k)
+    of true false e k rest = (let more = rest k in λ i. one_if (e i) + more i)
+    of false q e k rest = rest k
+
+pub inside_so : (ls : List Loop) (cs : List Split) → AreShiftsInside ls cs → AllByRecursion (λ c. is_shifted c ≡ true → hits loop_name c.outer (parallel_loops ls) ≡ 0) cs
+inside_so ls [] h = tt
+inside_so ls (c ∷ cs) h = ((λ e. none_over ls c.outer (h.0 e)), inside_so ls cs h.1)
 
 -- ---- groups
 
@@ -297,14 +301,14 @@ module _ (a : Algorithm) (sch : Schedule) (l : Lowered) (well : IsAlgorithm a) (
       (few n (group_of q) (at_map group_of l.plan.groups.items n q theirs)) laid once_here inners_here shifts_here roomy early_there lefts_there own_there bounded region held_there
 
 pub blocked_owed : BlockedGroupsOweShown
-blocked_owed a s l well legal small regions groups all free told grids few near n g at u there blocked fs defined r laid lefts own_indices held_parts early nests takes =
+blocked_owed a s l well legal small regions groups all free told grids few near n g at u there tailed fs defined r laid lefts own_indices held_parts early nests takes =
     let p = plan_of l.plan in
     let c = certificate_of l.certificate in
     let o = outline_of p c n g in
     let rules = rules_of a p c n in
     let x = from_map group_of l.plan.groups.items n g at in
-    let at_group = group_at a s l well legal small (regions all).0 all groups told free grids few n x.0 x.1 u there blocked.once blocked.inners
-    (not_shifted u.placed.loops (loop_numbers u.subject.variables u.placed.cuts r.region) u.placed.cuts (blocked.filled r laid)) fs defined r laid lefts own_indices held_parts early in
+    let at_group = group_at a s l well legal small (regions all).0 all groups told free grids few n x.0 x.1 u there tailed.once tailed.inners
+    (inside_so u.placed.loops u.placed.cuts tailed.inside) fs defined r laid lefts own_indices held_parts early in
     let shown = subst (λ (y : Group). StoresAreShown a s l well legal small (regions all).0 all groups told free grids few n y) (sym x.2) at_group in
     let stores = lines_weaker o rules (λ t i y. IsStoreLine t → (tests : Nests) → Shows o rules tests (λ o'. IsNameTest o'.wanted → ⊥) (obligations o rules t i y))
     (λ t i y. IsStoreLine t → AllByRecursion (λ o'. (IsNameTest o'.wanted → ⊥) → is_shown rules nests o' ≡ true) (obligations o rules t i y)) (λ t i y z one. z one nests) g.body (body_line p n)
@@ -321,7 +325,7 @@ blocked_owed a s l well legal small regions groups all free told grids few near 
         let c = certificate_of l.certificate in
         let rules = rules_of a p c n in
         let x = from_map group_of l.plan.groups.items n g at in
-        let here = yes_at a s l well legal small (regions all).0 all groups n x.0 x.1 u there blocked in
+        let here = yes_at a s l well legal small (regions all).0 all groups n x.0 x.1 u there tailed in
         let yes = subst (λ (v : Group). EachClaim (outline_of p c n v) rules
         (λ kept begin last k t m. (IsFetch t → ⊥) → (tests : Nests) → TakeSplit a p c n v tests → SayYes (outline_of p c n v) rules tests k t m) [] v.body (body_line p n)
         (start (grid_binders v.grid))) (sym x.2) here in

@@ -325,7 +325,7 @@ module _ (scope : List Binding) (a b : ℕ) (less : a < b) (z c d : ℤ) (some_c
       factor_b
       ∙ ap (λ (v : Bool). if v then replacements scope b form else total_at (slice_get scope b) d cost) some_d ∙ ap (λ (o : Option Binding). total_at o d cost) there_b ∙ total_is
 
-  least_two : (k : ℕ) → least scope (suc (b + k)) form ≡ Some r
+  pub least_two : (k : ℕ) → least scope (suc (b + k)) form ≡ Some r
   least_two zero = (let none : suc (b + 0) ≡ suc b = omega arith in ap (λ (n : ℕ). least scope n form) none ∙ at_two)
   least_two (suc k) =
       let next : b + suc k ≡ suc (b + k) = omega arith in
@@ -335,7 +335,7 @@ module _ (scope : List Binding) (a b : ℕ) (less : a < b) (z c d : ℤ) (some_c
       (λ other. option_and_then (λ next. least scope (suc (b + k)) next) (replaced form (suc (b + k)) v other))) free
       ∙ least_two k
 
-  replacements_two : (k : ℕ) → replacements scope (suc (b + k)) form ≡ 2
+  pub replacements_two : (k : ℕ) → replacements scope (suc (b + k)) form ≡ 2
   replacements_two zero = (let none : suc (b + 0) ≡ suc b = omega arith in ap (λ (n : ℕ). replacements scope n form) none ∙ count_two)
   replacements_two (suc k) =
       let next : b + suc k ≡ suc (b + k) = omega arith in

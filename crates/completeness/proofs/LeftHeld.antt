@@ -318,7 +318,7 @@ module _ (a : Algorithm) (sch : Schedule) (l : Lowered) (well : IsAlgorithm a) (
                   (omega (arith, ints, begins, from, last, some)) (omega (arith, ints, begins, from, more, some, ends_there)) low_near high_near,
               ap (λ (z : _). span_inside scope s (numbers (negsuc 2147483647) z)) (sym last_is)
                   ∙ whole_inside scope index.boxes s ends all_numbers freed lowers uppers negation_over light (omega (arith, ints, low_near)) (omega (arith, ints, high_near, last_is))
-                      (omega (arith, ints))
+                  (omega (arith, ints))
                   (omega (arith, ints, last_is)) low_near high_near,
             )
 

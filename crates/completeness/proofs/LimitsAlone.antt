@@ -1,4 +1,4 @@
--- What the checker tells of a plan whose schedule splits loops once at most, by blocks that need no line of their own, is a limit.
+-- What the checker tells of a plan whose schedule splits loops once at most is a limit.
 use Rattle.std.proofs.Common.{◌≡◌, ℕ, suc, Bool, true, ◌||◌, List, [], ◌∷◌, Some, refl, ap, ◌∙◌}
 use Rattle.std.specs.Prelude.{slice_get}
 use Rattle.std.specs.List.{AllByRecursion}
@@ -28,7 +28,7 @@ use Rattle.completeness.proofs.Served.{made_at}
 use Rattle.completeness.proofs.FewLines.{lines_told, grids_few, symbols_few}
 use Rattle.completeness.proofs.NamesRead.{named_no_load}
 use Rattle.completeness.proofs.NearClaims.{claims_near}
-use Rattle.completeness.proofs.BlockNear.{near_blocked_owed}
+use Rattle.completeness.proofs.StoreLaw.{near_blocked_owed}
 
 each_at : {A : Type 0} (P : A → Type 0) (xs : List A) → ((i : ℕ) (x : A) → slice_get xs i ≡ Some x → P x) → AllByRecursion P xs
 each_at P [] h = tt
@@ -43,13 +43,13 @@ slid_take a p c n g = ((λ bs m from places t e. or_true _ _ e), (λ bs m t e. e
 
 module _ (a : Algorithm) (s : Schedule) (fills : SplitsPlainly a s) where
   inners : InnersAreKept a s
-  inners = each_at (λ g. KeepsInner g.placed.loops g.placed.cuts) (stored_functions a s) (λ i g at. (fills.blocked i g at).inners)
+  inners = each_at (λ g. KeepsInner g.placed.loops g.placed.cuts) (stored_functions a s) (λ i g at. (fills.tailed i g at).inners)
 
   pub splits_once : SplitsOnce a s
-  splits_once = record { whole = fills.whole; once = λ i u at. (let mine = fills.blocked i u at in record { once = mine.once; inners = mine.inners }) }
+  splits_once = record { whole = fills.whole; once = λ i u at. (let mine = fills.tailed i u at in record { once = mine.once; inners = mine.inners }) }
 
   once : AllByRecursion (λ g. AreSplitOnce g.placed.cuts) (stored_functions a s)
-  once = each_at (λ g. AreSplitOnce g.placed.cuts) (stored_functions a s) (λ i g at. (fills.blocked i g at).once)
+  once = each_at (λ g. AreSplitOnce g.placed.cuts) (stored_functions a s) (λ i g at. (fills.tailed i g at).once)
 
 pub limits_alone : LimitsAloneAreTold
 limits_alone a s l well legal small regions groups fills named =
@@ -84,7 +84,7 @@ limits_alone a s l well legal small regions groups fills named =
         let c = certificate_of l.certificate in
         let x = from_map group_of l.plan.groups.items n g at in
         let me = made_at a s l well legal small (regions fills.whole).0 fills.whole groups n x.0 x.1 in
-        near_blocked_owed a s l well legal small regions groups fills.whole (named_no_load a named) lines_stand grids symbols near n g at me.stored me.is (fills.blocked n me.stored me.is) me.formulas
+        near_blocked_owed a s l well legal small regions groups fills.whole (named_no_load a named) lines_stand grids symbols near n g at me.stored me.is (fills.tailed n me.stored me.is) me.formulas
         me.defined me.laid me.found (fills.placed n me.stored me.is me.formulas me.defined me.laid me.found) (fills.near n me.stored me.is me.formulas me.defined me.laid me.found) (slid_nests
         (outline_of p c n g) (rules_of a p c n) (domains_of a))
         (slid_take a p c n g)

@@ -1,5 +1,5 @@
 -- The names, numbers and dimensions of functions whose loops are split once, with any tail, in any order, and their skeletons.
-use Rattle.std.proofs.Common.{◌≡◌, ℕ, zero, suc, ◌+◌, ◌-◌, ◌*◌, ◌<◌, ◌≤◌, ◌^◌, Bool, true, false, ◌||◌, List, [], ◌∷◌, ◌++◌, length, map}
+use Rattle.std.proofs.Common.{◌≡◌, ℕ, zero, suc, ◌+◌, ◌*◌, ◌<◌, ◌≤◌, ◌^◌, Bool, true, false, ◌||◌, List, [], ◌∷◌, ◌++◌, length, map}
 use Rattle.std.proofs.Common.{Option, Some, None, refl, sym, ap, ◌∙◌, subst, inl, inr, ◌⊎◌, arith}
 use Rattle.std.specs.Prelude.{ℤ, pos, ◌+ℤ◌, ◌-ℤ◌, ◌*ℤ◌, if◌then◌else◌, slice_get}
 use Rattle.std.specs.List.{AllByRecursion}
@@ -71,7 +71,7 @@ use Rattle.completeness.proofs.Origins.{places_long}
 use Rattle.completeness.proofs.PlainNests.{grid_named}
 use Rattle.completeness.proofs.NestWalk.{LetsFirst}
 use Rattle.completeness.proofs.PlainTurns.{hits, hits_once, itself, turn_name, one_if, hits_some}
-use Rattle.completeness.proofs.PureNests.{all_in, loop_name, hits_named, all_slices, all_once}
+use Rattle.completeness.proofs.PureNests.{all_in, loop_name, hits_named, all_slices}
 use Rattle.completeness.proofs.UpdateTurns.{hits_fewer}
 use Rattle.completeness.proofs.GridTurns.{grid_none, OverGrid, NotOverGrid, either_name}
 use Rattle.completeness.proofs.Searched.{one_of}

@@ -1,5 +1,5 @@
 -- The search at the latest symbol of a form: by the one form that may stand in the symbol's place, or by two; and so over two symbols of loops with numbers as ends.
-use Rattle.std.proofs.Common.{◌≡◌, ℕ, zero, suc, ◌+◌, ◌*◌, ◌<◌, ◌≤◌, ◌^◌, Bool, true, false, ◌&&◌, not, List, [], ◌∷◌, length, map, Option, Some, None, refl, ap, ◌∙◌, subst, arith}
+use Rattle.std.proofs.Common.{◌≡◌, ℕ, zero, suc, ◌+◌, ◌<◌, ◌≤◌, ◌^◌, Bool, true, false, ◌&&◌, not, List, [], ◌∷◌, length, map, Option, Some, None, refl, ap, ◌∙◌, subst, arith}
 use Rattle.std.specs.Prelude.{ℤ, pos, negsuc, ◌+ℤ◌, ◌*ℤ◌, ◌==◌, nat_lt, nat_le, if◌then◌else◌, slice_get, option_and_then}
 use Rattle.std.specs.Option.{option_map_or}
 use Rattle.std.specs.Int.RustNames.{unsigned_abs}

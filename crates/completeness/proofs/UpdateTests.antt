@@ -1,7 +1,7 @@
 -- What the tests of nests of updates read: coordinates that are found by an expression, and the loops of reduction variables.
 use Rattle.std.proofs.Common.{◌≡◌, ℕ, suc, ◌+◌, ◌≤◌, ◌^◌, Bool, true, false, ◌&&◌, ◌||◌, List, [], ◌∷◌, ◌++◌, length, map, Option, Some, None}
 use Rattle.std.proofs.Common.{refl, sym, ap, ◌∙◌, subst, arith}
-use Rattle.std.specs.Prelude.{ℤ, if◌then◌else◌, filter, reverse, slice_get}
+use Rattle.std.specs.Prelude.{ℤ, reverse, slice_get}
 use Rattle.std.specs.List.{AllByRecursion, list_any}
 use Rattle.std.specs.Int.RustNames.{unsigned_abs}
 use Rattle.std.proofs.lemmas.Int.{ints}
@@ -14,7 +14,7 @@ use Rattle.meaning.specs.Algorithm.{Range}
 use Rattle.meaning.specs.Conditions.{IsRange}
 use Rattle.meaning.specs.Names.{same_name}
 use Rattle.soundness.specs.Obligations.{Binder, Rules}
-use Rattle.soundness.specs.Nests.Nest.{Loop, index_is, is_symbol}
+use Rattle.soundness.specs.Nests.Nest.{index_is, is_symbol}
 use Rattle.soundness.specs.Nests.Tests.{is_whole, are_whole}
 use Rattle.soundness.proofs.Refines.{name_refl}
 use Rattle.rules.specs.Bounding.Scopes.{scope_of, shown_at_most}
@@ -31,11 +31,8 @@ use Rattle.completeness.proofs.PureNests.{all_back}
 use Rattle.completeness.proofs.UpdateTurns.{range_name, hits_in, all_mapped}
 use Rattle.std.proofs.Common.{◌≡◌, ℕ, ◌+◌, List, [], ◌∷◌, refl, ap}
 use Rattle.lin.specs.Forms.{Form}
-use Rattle.soundness.specs.Nests.Nest.{Loop}
 use Rattle.sched.specs.Skeleton.{span}
-use Rattle.tails.specs.Updates.{loops_in}
 use Rattle.completeness.proofs.PlainTests.{limited_loops}
-use Rattle.completeness.proofs.SplitTests.{limited_turns}
 use Rattle.std.proofs.Common.{◌≡◌, ℕ, zero, suc, ◌≤◌, List, [], ◌∷◌, ◌++◌, length, take, drop}
 use Rattle.std.proofs.Common.{Option, refl, ap, arith}
 use Rattle.lin.specs.Forms.{Form}
@@ -88,28 +85,6 @@ module _ (n : ℕ) (ts : List Turning) (few : (y : List ℕ) → hits turn_name 
             list_any (is_symbol (n + j)) (c ∷ cs) ≡ true
         of true e k rest = ap (λ (b : Bool). b || list_any (is_symbol (n + j)) cs) e
         of false e k rest = (let more = rest (omega (arith, k)) in λ i. e i || more i)
-
--- ---- loops one after another
-
-pub loops_joined : (lim : ℕ → List Form) (n : ℕ) (us vs : List Turning) → limited_loops lim n (us ++ vs) ≡ limited_loops lim n us ++ limited_loops lim (n + length us) vs
-loops_joined lim n [] vs = (let none : n ≡ n + 0 = omega arith in ap (λ (m : ℕ). limited_loops lim m vs) none)
-loops_joined lim n (u ∷ us) vs =
-    let next : (n + 1) + length us ≡ n + suc (length us) = omega arith in
-    let rest = loops_joined lim (n + 1) us vs ∙ ap (λ (m : ℕ). limited_loops lim (n + 1) us ++ limited_loops lim m vs) next in
-    ap (λ (ls : List Loop). record { symbol = n; span = span u.low u.last (lim n) } ∷ ls) rest
-
--- the loops of the first are none of these, and those of the others all
-module _ (lim : ℕ → List Form) (Q : Loop → Bool) where
-  pub filter_first : (n : ℕ) (us : List Turning) (rest : List Loop) →
-      ((j : ℕ) (t : Turning) → slice_get us j ≡ Some t → Q (record { symbol = n + j; span = span t.low t.last (lim (n + j)) }) ≡ false) → filter Q (limited_loops lim n us ++ rest) ≡ filter Q rest
-  filter_first n [] rest h = refl
-  filter_first n (u ∷ us) rest h =
-      let none : n + 0 ≡ n = omega arith in
-      let here : Q (record { symbol = n; span = span u.low u.last (lim n) }) ≡ false =
-      subst (λ (m : ℕ). Q (record { symbol = m; span = span u.low u.last (lim m) }) ≡ false) none (h 0 u refl) in
-      ap (λ (b : Bool). if b then record { symbol = n; span = span u.low u.last (lim n) } ∷ filter Q (limited_loops lim (n + 1) us ++ rest) else filter Q (limited_loops lim (n + 1) us ++ rest)) here
-      ∙ filter_first (n + 1) us rest (λ j t e. let next : n + suc j ≡ (n + 1) + j = omega arith in
-      subst (λ (m : ℕ). Q (record { symbol = m; span = span t.low t.last (lim m) }) ≡ false) next (h (suc j) t e))
 
 -- ---- the loops of a reduction
 
@@ -228,9 +203,3 @@ parted_coordinates ms [] tail names lefts cs h = (names, lefts, h)
 parted_coordinates ms (v ∷ vs) tail [] lefts cs h = absurd h
 parted_coordinates ms (v ∷ vs) tail (x ∷ names) lefts [] h = absurd h
 parted_coordinates ms (v ∷ vs) tail (x ∷ names) lefts (c ∷ cs) h = parted_coordinates ms vs tail names (other_lefts lefts) cs h.2
-
--- ---- the loops of a nest, as the test of an update's steps finds them
-
-pub loops_are : (lim : ℕ → List Form) (n : ℕ) (ts : List Turning) → loops_in (limited_turns lim n ts) ≡ limited_loops lim n ts
-loops_are lim n [] = refl
-loops_are lim n (t ∷ ts) = ap (λ (ls : List Loop). record { symbol = n; span = span t.low t.last (lim n) } ∷ ls) (loops_are lim (n + 1) ts)

@@ -11,7 +11,8 @@ use Rattle.sched.specs.Subjects.{subject_said}
 use Rattle.sched.specs.Legal.{said, loops_after}
 use Rattle.lower.specs.Stored.{FormulaText, StoredText, stored_by, flags, stored_functions}
 use Rattle.lower.specs.Regions.{LaidText, laid_functions}
-use Rattle.completeness.specs.Blocked.{makes_line, IsKept}
+use Rattle.lower.specs.Bodies.{step_lines}
+use Rattle.completeness.specs.Blocked.{makes_line, IsKept, IsTailed}
 use Rattle.completeness.specs.Stores.{IsNearRegion}
 use Rattle.completeness.specs.Simple.{SimpleIndices}
 use Rattle.completeness.specs.Filled.{AreEndsShort, IsNearOrSimple}
@@ -61,34 +62,30 @@ first_is u at = some_same first u at
 second_is : (u : StoredText) → slice_get gs 1 ≡ Some u → second ≡ u
 second_is u at = some_same second u at
 
--- over a region no split makes a line of its own
+-- over its region no split of the first one makes a line of its own
 abbrev IsFilled : StoredText → List Extent → Type 0
 IsFilled g es = AllByRecursion (λ c. makes_line g.placed.loops (loop_numbers g.subject.variables g.placed.cuts es) c ≡ false) g.placed.cuts
 
 first_filled : IsFilled first points
-first_filled = (refl, tt)
-
-second_filled : IsFilled second points
-second_filled = (refl, (refl, tt))
+first_filled = (refl, (refl, tt))
 
 first_blocked : IsKept two_functions both_split 0 first
 first_blocked = record {
-  once = (refl, tt);
-  inners = (refl, refl, tt);
+  once = (refl, (refl, tt));
+  inners = (refl, refl, (refl, refl, tt));
   filled = λ l e. subst (IsFilled first) (sym region_first ∙ ap region_in e) first_filled;
 }
 
-second_blocked : IsKept two_functions both_split 1 second
-second_blocked = record {
-  once = (refl, (refl, tt));
-  inners = (refl, refl, (refl, refl, tt));
-  filled = λ l e. subst (IsFilled second) (sym region_second ∙ ap region_in e) second_filled;
-}
+first_tailed : IsTailed first
+first_tailed = record { once = (refl, (refl, tt)); inners = (refl, refl, (refl, refl, tt)); inside = ((λ e. absurd (cc e)), ((λ e. absurd (cc e)), tt)) }
 
-blocked : (n : ℕ) (u : StoredText) → slice_get gs n ≡ Some u → IsKept two_functions both_split n u
-blocked zero u at = subst (IsKept two_functions both_split 0) (first_is u at) first_blocked
-blocked (suc zero) u at = subst (IsKept two_functions both_split 1) (second_is u at) second_blocked
-blocked (suc (suc n)) u at = absurd (no_more u at)
+second_tailed : IsTailed second
+second_tailed = record { once = (refl, (refl, tt)); inners = (refl, refl, (refl, refl, tt)); inside = ((λ e. refl), ((λ e. refl), tt)) }
+
+tailed : (n : ℕ) (u : StoredText) → slice_get gs n ≡ Some u → IsTailed u
+tailed zero u at = subst IsTailed (first_is u at) first_tailed
+tailed (suc zero) u at = subst IsTailed (second_is u at) second_tailed
+tailed (suc (suc n)) u at = absurd (no_more u at)
   where
     no_more : (u : StoredText) → None ≡ Some u → ⊥
     no_more u q = cc q
@@ -166,10 +163,11 @@ placed (suc (suc n)) u at fs e r there = absurd (no_more u at)
     no_more u q = cc q
 
 -- the first one's region begins near 0
-first_near : (u : StoredText) (fs : List FormulaText) (r : LaidText) → slice_get (laid_functions two_functions gs) 0 ≡ Some (Some r) → IsNearOrSimple u fs r.region
-first_near u fs r at = inl (subst IsNearRegion (sym region_first ∙ ap region_in at) near_points)
+first_near : (u : StoredText) (fs : List FormulaText) (r : LaidText) → slice_get gs 0 ≡ Some u → slice_get (laid_functions two_functions gs) 0 ≡ Some (Some r) →
+    IsNearOrSimple two_functions both_split 0 u fs r.region
+first_near u fs r at laid = inl (subst (IsKept two_functions both_split 0) (first_is u at) first_blocked, subst IsNearRegion (sym region_first ∙ ap region_in laid) near_points)
 
--- and the second one's indices are simple, and its blocks reach no further number
+-- and the second one's indices are simple, and its blocks are kept within the picture
 second_simple : SimpleIndices (formulas_in second.formulas)
 unfolding formulas_in
 second_simple = (refl, tt)
@@ -178,11 +176,11 @@ abbrev EndsIn : StoredText → List Extent → Type 0
 EndsIn u es = AreEndsShort (loop_numbers u.subject.variables u.placed.cuts es) u.placed.cuts
 
 second_ends : EndsIn second points
-second_ends = ((λ bare rest. absurd (cc bare)), ((λ bare rest. absurd (cc rest)), tt))
+second_ends = ((λ bare rest. absurd (cc bare)), ((λ bare rest. absurd (cc bare)), tt))
 
 near : (n : ℕ) (u : StoredText) → slice_get gs n ≡ Some u → (fs : List FormulaText) → u.formulas ≡ Some fs → (r : LaidText) →
-    slice_get (laid_functions two_functions gs) n ≡ Some (Some r) → IsNearOrSimple u fs r.region
-near zero u at fs e r laid = first_near u fs r laid
+    slice_get (laid_functions two_functions gs) n ≡ Some (Some r) → IsNearOrSimple two_functions both_split n u fs r.region
+near zero u at fs e r laid = first_near u fs r at laid
 near (suc zero) u at fs e r laid =
     inr (
       subst SimpleIndices (as_found second u fs (second_is u at) e) second_simple,
@@ -193,5 +191,15 @@ near (suc (suc n)) u at fs e r laid = absurd (no_more u at)
     no_more : (u : StoredText) → None ≡ Some u → ⊥
     no_more u q = cc q
 
+abbrev HasTwelve : LaidText → Type 0
+HasTwelve r = AllByRecursion (λ w. step_lines w.steps ≡ 12) r.skeleton.nests
+
+second_twelve : HasTwelve laid_second
+unfolding laid_in
+second_twelve = (refl, tt)
+
 pub splits_are_plain : SplitsFill
-splits_are_plain = record { whole = refl; blocked = blocked; placed = placed; near = near }
+splits_are_plain = record {
+  plain = record { whole = refl; tailed = tailed; placed = placed; near = near };
+  nest = λ r e. subst HasTwelve (as_laid 1 r e) second_twelve;
+}

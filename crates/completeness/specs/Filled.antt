@@ -1,12 +1,11 @@
--- What the lines of a group owe the checker, of a function whose loops are split once, by blocks that need no line of their own.
-use Rattle.std.specs.Prelude.{◌≡◌, ◌⊎◌, ℕ, ◌&&◌, true, false, List, Some, pos, ◌+ℤ◌, ◌≤ℤ◌, slice_get}
-use Rattle.std.specs.List.{AllByRecursion, list_any}
+-- What the lines of a group owe the checker, of a function whose loops are split once.
+use Rattle.std.specs.Prelude.{◌≡◌, ◌⊎◌, ℕ, true, false, List, Some, pos, ◌+ℤ◌, ◌≤ℤ◌, slice_get}
+use Rattle.std.specs.List.{AllByRecursion}
 use Rattle.plan.specs.Plan.{Group}
 use Rattle.plan.specs.View.{plan_of}
 use Rattle.plan.specs.Certificate.Certificate.{certificate_of}
 use Rattle.meaning.specs.Algorithm.{Algorithm}
 use Rattle.meaning.specs.Conditions.{IsAlgorithm}
-use Rattle.meaning.specs.Names.{same_name}
 use Rattle.sched.specs.declared.schedule.Split.{Split}
 use Rattle.sched.specs.declared.numbers.Extent.{Extent}
 use Rattle.sched.specs.declared.numbers.Numbers.{Numbers}
@@ -14,22 +13,19 @@ use Rattle.sched.specs.Schedule.{Schedule}
 use Rattle.sched.specs.Legal.{IsLegal}
 use Rattle.sched.specs.Numbers.{numbers_named, loop_numbers, last_number}
 use Rattle.sched.specs.Standing.{has_rest}
-use Rattle.sched.specs.Placing.{is_parallel, is_shifted}
-use Rattle.sched.specs.declared.placing.Loop.{Loop}
 use Rattle.lower.specs.declared.lowering.Lowered.{Lowered}
 use Rattle.lower.specs.Stored.{FormulaText, StoredText, stored_functions}
 use Rattle.lower.specs.Regions.{LaidText, laid_functions}
 use Rattle.lower.specs.Faults.{are_whole}
 use Rattle.lower.specs.Refused.{AreSmall, AreRegionsKept}
 use Rattle.lower.specs.Groups.{AreGroupsMade}
-use Rattle.completeness.specs.Laws.{AreLinesTold, NamesNoLoad, IsStore, AreSplitOnce}
-use Rattle.completeness.specs.Parted.{KeepsInner}
+use Rattle.completeness.specs.Laws.{AreLinesTold, NamesNoLoad, IsStore}
 use Rattle.completeness.specs.Owed.{OweShown, AreGridsFew, AreSymbolsFew, AreClaimsNear}
 use Rattle.completeness.specs.Nested.{TakeSplit}
 use Rattle.completeness.specs.Stores.{AreHeld, GroupShown, IsNearRegion}
 use Rattle.completeness.specs.Simple.{SimpleIndices}
 use Rattle.completeness.specs.Placed.{ArePlaced, AreLeftsHeld, AreOwnHeld}
-use Rattle.completeness.specs.Blocked.{is_tailed, IsKept}
+use Rattle.completeness.specs.Blocked.{is_tailed, IsKept, IsTailed}
 
 -- where the blocks of a split run past the end of its loop, and no guard keeps them within it, the numbers that they reach are of 32 bits
 abbrev pub AreEndsShort : List Numbers → List Split → Type 0
@@ -37,11 +33,12 @@ AreEndsShort rs cs =
     AllByRecursion
     (λ c. is_tailed rs c ≡ false → has_rest c (numbers_named rs c.whole).count ≡ true → (last_number (numbers_named rs c.whole) +ℤ pos c.factor) ≤ℤ pos 2147483647) cs
 
--- the region that is needed of the function begins near 0; or, wherever it begins, each index of its definitions is simple, and its blocks reach numbers of 32 bits
-abbrev pub IsNearOrSimple : StoredText → List FormulaText → List Extent → Type 0
-IsNearOrSimple u fs es = IsNearRegion es ⊎ (SimpleIndices fs × AreEndsShort (loop_numbers u.subject.variables u.placed.cuts es) u.placed.cuts)
+-- the region that is needed of the function begins near 0, and its blocks need no line of their own; or, wherever it begins, each index of its definitions is
+-- simple, and its blocks reach numbers of 32 bits
+abbrev pub IsNearOrSimple : Algorithm → Schedule → ℕ → StoredText → List FormulaText → List Extent → Type 0
+IsNearOrSimple a s n u fs es = (IsKept a s n u × IsNearRegion es) ⊎ (SimpleIndices fs × AreEndsShort (loop_numbers u.subject.variables u.placed.cuts es) u.placed.cuts)
 
--- of each function whose loops are split once, by blocks that need no line of their own, whichever loops are parallel but the inner ones, where what it fetches
+-- of each function whose loops are split once, whatever the tails, in whatever order, whichever loops are parallel but the inner ones, where what it fetches
 -- holds its calls, and each left index that is no variable lies in its dimension, as the indices of its own calls there do: all that the lines of its group owe is
 -- shown by the tests of split nests: K2, K4, K5, K6 and K7 are told of none of them
 abbrev pub BlockedGroupsOweShown : Type 0
@@ -49,7 +46,7 @@ BlockedGroupsOweShown =
     (a : Algorithm) (s : Schedule) (l : Lowered) → IsAlgorithm a → IsLegal a s → AreSmall a s → AreRegionsKept a s → AreGroupsMade a s l
     → are_whole (stored_functions a s) ≡ true → NamesNoLoad a → AreLinesTold (plan_of l.plan) → AreGridsFew (plan_of l.plan) → AreSymbolsFew (plan_of l.plan)
     → AreClaimsNear (certificate_of l.certificate)
-    → (n : ℕ) (g : Group) → slice_get (plan_of l.plan).groups n ≡ Some g → (u : StoredText) → slice_get (stored_functions a s) n ≡ Some u → IsKept a s n u
+    → (n : ℕ) (g : Group) → slice_get (plan_of l.plan).groups n ≡ Some g → (u : StoredText) → slice_get (stored_functions a s) n ≡ Some u → IsTailed u
     → (fs : List FormulaText) → u.formulas ≡ Some fs → (r : LaidText) → slice_get (laid_functions a (stored_functions a s)) n ≡ Some (Some r)
     → AreLeftsHeld a u fs r.region r.skeleton → AreOwnHeld a u fs r.region r.skeleton → AreHeld a (stored_functions a s) n u fs r.skeleton → AreEndsShort (loop_numbers u.subject.variables
     u.placed.cuts r.region) u.placed.cuts
@@ -61,13 +58,9 @@ NearBlockedGroupsOweShown =
     (a : Algorithm) (s : Schedule) (l : Lowered) → IsAlgorithm a → IsLegal a s → AreSmall a s → AreRegionsKept a s → AreGroupsMade a s l
     → are_whole (stored_functions a s) ≡ true → NamesNoLoad a → AreLinesTold (plan_of l.plan) → AreGridsFew (plan_of l.plan) → AreSymbolsFew (plan_of l.plan)
     → AreClaimsNear (certificate_of l.certificate)
-    → (n : ℕ) (g : Group) → slice_get (plan_of l.plan).groups n ≡ Some g → (u : StoredText) → slice_get (stored_functions a s) n ≡ Some u → IsKept a s n u
+    → (n : ℕ) (g : Group) → slice_get (plan_of l.plan).groups n ≡ Some g → (u : StoredText) → slice_get (stored_functions a s) n ≡ Some u → IsTailed u
     → (fs : List FormulaText) → u.formulas ≡ Some fs → (r : LaidText) → slice_get (laid_functions a (stored_functions a s)) n ≡ Some (Some r) → ArePlaced a u fs r
-    → IsNearOrSimple u fs r.region → GroupShown TakeSplit a (plan_of l.plan) (certificate_of l.certificate) n g
-
--- no outer loop of a split with `shift` is parallel
-abbrev pub AreShiftsInside : List Loop → List Split → Type 0
-AreShiftsInside ls cs = AllByRecursion (λ c. is_shifted c ≡ true → list_any (λ l. is_parallel l && same_name l.name c.outer) ls ≡ false) cs
+    → IsNearOrSimple a s n u fs r.region → GroupShown TakeSplit a (plan_of l.plan) (certificate_of l.certificate) n g
 
 -- of each function whose loops are split once, whatever the tails and in whatever order the loops stand, whose indices are simple and whose blocks reach numbers
 -- of 32 bits where nothing keeps them within their loop: all that the stores of its group owe is shown
@@ -76,7 +69,6 @@ StoreLinesOweShown =
     (a : Algorithm) (s : Schedule) (l : Lowered) → IsAlgorithm a → IsLegal a s → AreSmall a s → AreRegionsKept a s → AreGroupsMade a s l
     → are_whole (stored_functions a s) ≡ true → NamesNoLoad a → AreLinesTold (plan_of l.plan) → AreGridsFew (plan_of l.plan) → AreSymbolsFew (plan_of l.plan)
     → (n : ℕ) (g : Group) → slice_get (plan_of l.plan).groups n ≡ Some g → (u : StoredText) → slice_get (stored_functions a s) n ≡ Some u
-    → AreSplitOnce u.placed.cuts → KeepsInner u.placed.loops u.placed.cuts → AreShiftsInside u.placed.loops u.placed.cuts
-    → (fs : List FormulaText) → u.formulas ≡ Some fs → (r : LaidText) → slice_get (laid_functions a (stored_functions a s)) n ≡ Some (Some r) → ArePlaced a u fs r
+    → IsTailed u → (fs : List FormulaText) → u.formulas ≡ Some fs → (r : LaidText) → slice_get (laid_functions a (stored_functions a s)) n ≡ Some (Some r) → ArePlaced a u fs r
     → SimpleIndices fs → AreEndsShort (loop_numbers u.subject.variables u.placed.cuts r.region) u.placed.cuts
     → OweShown IsStore a (plan_of l.plan) (certificate_of l.certificate) n g

@@ -1,4 +1,4 @@
--- What the checker tells of a plan whose schedule splits loops once at most, by blocks that need no line of their own, is a limit.
+-- What the checker tells of a plan whose schedule splits loops once at most is a limit.
 use Rattle.std.specs.Prelude.{◌≡◌, ℕ, true, List, Some, slice_get}
 use Rattle.std.specs.List.{AllByRecursion}
 use Rattle.meaning.specs.Algorithm.{Algorithm}
@@ -27,20 +27,20 @@ use Rattle.lower.specs.Faults.{are_whole}
 use Rattle.lower.specs.Refused.{AreSmall, AreRegionsKept}
 use Rattle.lower.specs.Groups.{AreGroupsMade}
 use Rattle.completeness.specs.Placed.{ArePlaced}
-use Rattle.completeness.specs.Blocked.{IsKept}
+use Rattle.completeness.specs.Blocked.{IsTailed}
 use Rattle.completeness.specs.Filled.{IsNearOrSimple}
 
--- each stored function is a root function that is computed at no loop; its loops are split once at most, none with `shift`: with `roundup`, or with `guard`
--- where the factor divides the loop's numbers, the inner loop stands inside of the outer one, or a piece tells the block; where a left index of its updates is no
--- variable, asking for its region came to an end; and the region that is needed of it begins near 0, or each index of its definitions is simple and its blocks
--- reach numbers of 32 bits
+-- each stored function is a root function that is computed at no loop; its loops are split once at most, whatever the tails and in whatever order they stand, but
+-- no outer loop of a split with `shift` is parallel; where a left index of its updates is no variable, asking for its region came to an end; and each index of its
+-- definitions is simple and its blocks reach numbers of 32 bits, or the region that is needed of it begins near 0, and no split is with `shift`, nor with a
+-- `guard` that keeps numbers by a line of its own
 pub record SplitsPlainly (a : Algorithm) (s : Schedule) : Type 0 where
   pub whole : are_whole (stored_functions a s) ≡ true
-  pub blocked : (n : ℕ) (u : StoredText) → slice_get (stored_functions a s) n ≡ Some u → IsKept a s n u
+  pub tailed : (n : ℕ) (u : StoredText) → slice_get (stored_functions a s) n ≡ Some u → IsTailed u
   pub placed : (n : ℕ) (u : StoredText) → slice_get (stored_functions a s) n ≡ Some u → (fs : List FormulaText) → u.formulas ≡ Some fs
       → (r : LaidText) → slice_get (laid_functions a (stored_functions a s)) n ≡ Some (Some r) → ArePlaced a u fs r
   pub near : (n : ℕ) (u : StoredText) → slice_get (stored_functions a s) n ≡ Some u → (fs : List FormulaText) → u.formulas ≡ Some fs →
-      (r : LaidText) → slice_get (laid_functions a (stored_functions a s)) n ≡ Some (Some r) → IsNearOrSimple u fs r.region
+      (r : LaidText) → slice_get (laid_functions a (stored_functions a s)) n ≡ Some (Some r) → IsNearOrSimple a s n u fs r.region
 
 -- the group of this number is not the output's, or has each point of it
 abbrev pub HasOutputPoints : Algorithm → Plan → Certificate → ℕ → Group → Type 0

@@ -62,15 +62,26 @@ two_functions = record {
 abbrev halved : List ℕ → List ℕ → List ℕ → ℕ → Tail → DirectiveText
 halved v outer inner n t = split (record { whole = v; outer = outer; inner = inner; factor = n; tail = t })
 
--- a piece for each two rows, which run past the end; and blocks of two rows, which a guard keeps within the picture, by four numbers, whose loop is vectorised
+-- a piece for each two rows, which run past the end, by four numbers, whose loop is vectorised; and shifted blocks of two rows, and blocks of three numbers, whose
+-- loop stands outside of that over the blocks: a guard keeps them within the row
 abbrev pub both_split : Schedule
 both_split =
-    record { function = codes "f"; directives = compute_root ∷ halved y (codes "yo") (codes "yi") 2 Roundup ∷ parallel (codes "yo") ∷ [] }
-    ∷ record { function = codes "out"; directives = halved y (codes "yo") (codes "yi") 2 Guard ∷ halved x (codes "xo") (codes "xi") 4 Guard ∷ vectorize (codes "xi") ∷ [] } ∷ []
+    record {
+      function = codes "f";
+      directives =
+          compute_root ∷ halved y (codes "yo") (codes "yi") 2 Roundup ∷ parallel (codes "yo") ∷ halved x (codes "xo") (codes "xi") 4 Guard ∷ vectorize (codes "xi") ∷ [];
+    }
+    ∷ record {
+      function = codes "out";
+      directives = halved y (codes "yo") (codes "yi") 2 Shift ∷ halved x (codes "xo") (codes "xi") 3 Guard ∷ reorder (codes "xo" ∷ codes "xi" ∷ []) ∷ [];
+    } ∷ []
 
--- they are such as the law asks
-abbrev pub SplitsFill : Type 0
-SplitsFill = SplitsPlainly two_functions both_split
+-- they are such as the law asks; and the nest of the second has twelve lines before its store: four loops with their ends, the let of the shifted block, a guard
+-- with its end, and a let behind that
+pub record SplitsFill : Type 0 where
+  pub plain : SplitsPlainly two_functions both_split
+  pub nest : (r : LaidText) → slice_get (laid_functions two_functions (stored_functions two_functions both_split)) 1 ≡ Some (Some r) →
+      AllByRecursion (λ w. step_lines w.steps ≡ 12) r.skeleton.nests
 
 -- shifted blocks of two rows, one to a piece, and blocks of three numbers, whose loop stands outside of that over the blocks: a guard keeps them within the row
 abbrev pub shifted_split : Schedule

@@ -1,4 +1,4 @@
-use Rattle.completeness.proofs.BlockUpdates.{shown}
+use Rattle.completeness.proofs.TailShown.{shown}
 use Rattle.completeness.proofs.blocked.blocked_claims_owe_shown.Goals as goal
 
 pub returns : goal.returns
