@@ -83,7 +83,7 @@ module _ (scope : List Binding) (a b : ℕ) (less : a < b) (inside : b < length 
 module _ (scope : List Binding) (a b : ℕ) (differ : (a == b) ≡ false) (inside_a : a < length scope) (inside_b : b < length scope) (x y : Span1) (there_a : slice_get scope a ≡ Some (Bound x))
     (there_b : slice_get scope b ≡ Some (Bound y)) (t k : ℕ) (few : suc k ≤ 1024) (t_few : t ≤ 2 ^ 32) (all_few : t * suc k ≤ 2 ^ 32) (x_low : x.lower ≡ number (pos 0) ∷ [])
     (x_last : x.upper ≡ number (pos t) ∷ []) (y_low : y.lower ≡ number (pos 0) ∷ []) (y_last : y.upper ≡ number (pos k) ∷ []) (low : ℤ) (from : negsuc 2147483647 ≤ℤ low)
-    (to : low ≤ℤ pos 2147483647) (ends : (low +ℤ (pos (t * suc k) +ℤ pos k)) ≤ℤ pos 2147483647) where
+    (to : low ≤ℤ pos 2147483647) where
   low_near : unsigned_abs low ≤ 2 ^ 36
   low_near = omega (arith, ints, from, to)
 
@@ -118,8 +118,8 @@ module _ (scope : List Binding) (a b : ℕ) (differ : (a == b) ≡ false) (insid
       is_index_span scope (exactly (pair low a (pos (suc k)) b)) ≡ true
   by_form f is above below = ap (λ (g : Form). is_index_span scope (exactly g)) is ∙ (λ j. ((above j || false) && true) && ((below j || false) && true))
 
-  pub pair_inside : is_index_span scope (exactly (pair low a (pos (suc k)) b)) ≡ true
-  pair_inside = of (nat_lt a b) refl
+  pub pair_inside : (low +ℤ (pos (t * suc k) +ℤ pos k)) ≤ℤ pos 2147483647 → is_index_span scope (exactly (pair low a (pos (suc k)) b)) ≡ true
+  pair_inside ends = of (nat_lt a b) refl
     where
       of : (v : Bool) → nat_lt a b ≡ v → is_index_span scope (exactly (pair low a (pos (suc k)) b)) ≡ true
       of true e =

@@ -23,14 +23,13 @@ use Rattle.plan.specs.declared.plan.Group.{Group as CodeGroup}
 use Rattle.plan.specs.declared.certificate.cert.Claim.{Claim as CodeClaim}
 use Rattle.plan.specs.declared.certificate.cert.Need.{Need}
 use Rattle.plan.specs.Plan.{Plan}
-use Rattle.plan.specs.View.{group_of, plan_of, statement_of}
+use Rattle.plan.specs.View.{plan_of, statement_of}
 use Rattle.plan.specs.Lines.{lines, body_line}
 use Rattle.meaning.specs.Algorithm.{Algorithm}
 use Rattle.meaning.specs.Conditions.{IsAlgorithm}
 use Rattle.soundness.specs.Claims.{In}
 use Rattle.soundness.proofs.Refines.{eq_true, and_parts}
 use Rattle.algo.specs.Scoping.Standing.{Written}
-use Rattle.headline.proofs.Lists.{from_map}
 use Rattle.headline.proofs.Regions.{at_in}
 use Rattle.headline.proofs.Members.{got}
 use Rattle.sched.specs.Schedule.{Schedule}
@@ -43,7 +42,7 @@ use Rattle.sched.specs.declared.skeleton.Known.{Known}
 use Rattle.sched.specs.declared.nest.Turning.{Turning}
 use Rattle.sched.specs.Numbers.{numbers_named, loop_numbers, parallel_loops, grid_counts, piece_counts, last_number}
 use Rattle.sched.specs.Placing.{is_parallel}
-use Rattle.sched.specs.Standing.{form_named, counted_from, has_rest}
+use Rattle.sched.specs.Standing.{form_named, counted_from}
 use Rattle.sched.specs.Skeleton.{BodyText, NestText, SkeletonText, loop_turning, nest_turns, variables_at, ranges_at, grid_forms, is_missing, span}
 use Rattle.sched.proofs.Standings.{found_all}
 use Rattle.lower.specs.declared.lowering.Lowered.{Lowered}
@@ -61,11 +60,10 @@ use Rattle.lower.proofs.Owners as owners
 use Rattle.completeness.specs.Laws.{AreSplitOnce}
 use Rattle.completeness.specs.Parted.{KeepsInner}
 use Rattle.completeness.specs.Stores.{AreHeld, IsNearRegion}
-use Rattle.completeness.specs.Simple.{is_simple, are_simple, is_simple_left, has_simple_indices, SimpleIndices}
+use Rattle.completeness.specs.Simple.{is_simple, are_simple, is_simple_left, has_simple_indices}
 use Rattle.completeness.specs.Placed.{IsSettled, ArePlaced, AreLeftsHeld, AreOwnHeld}
 use Rattle.completeness.proofs.LeftHeld.{lefts_held, owns_held}
-use Rattle.completeness.specs.Blocked.{is_tailed, makes_line, IsKept}
-use Rattle.completeness.specs.Filled.{AreEndsShort}
+use Rattle.completeness.specs.Blocked.{makes_line, IsKept}
 use Rattle.completeness.proofs.Owned.{some_same, same_extents, same_skeleton}
 use Rattle.completeness.proofs.Served.{roots, made_at}
 use Rattle.completeness.proofs.NamedClaims.{alone_body}
@@ -85,7 +83,6 @@ use Rattle.completeness.proofs.HeldNear.{IsFormed, IsIndexed, held_near}
 use Rattle.completeness.proofs.BlockSums.{multiple, pair, pair_is}
 use Rattle.completeness.proofs.BlockTurns.{Leaf, IsLimit, Right, IsBlockNest, AreBlocks, limited_for}
 use Rattle.completeness.proofs.BlockDims.{top, top_low, blocks_top, inner_low, inner_last}
-use Rattle.completeness.proofs.BlockStores.{blocked_owed}
 use Rattle.completeness.proofs.BlockNests as nests_of
 use Rattle.completeness.proofs.BlockLoops as loops_of
 
@@ -664,19 +661,10 @@ module _ (a : Algorithm) (sch : Schedule) (l : Lowered) (well : IsAlgorithm a) (
     formed_here : (d : ℕ) (w : NestText) → slice_get k.nests d ≡ Some w → IsFormed xs bs d w
     formed_here d w stands = (let v = shape_here.nests d w stands in record { body = v.body; at = v.at; known = v.known; forms = v.forms })
 
-    -- blocks end near, as well
-    ends_short : IsNearRegion h.extents → AreEndsShort rs cuts
-    ends_short near = all_from (λ c. is_tailed rs c ≡ false → has_rest c (numbers_named rs c.whole).count ≡ true → (last_number (numbers_named rs c.whole) +ℤ pos c.factor) ≤ℤ pos 2147483647) cuts
-        (λ c m bare e.
-        by (low c.whole) (numbers_named rs c.whole).count c.factor (wholes_close near c.whole (wholes c m)) (whole_few c.whole (wholes c m)).few (fits c m).few)
-      where
-        by : (z : ℤ) (n w : ℕ) → unsigned_abs z ≤ 65536 → n ≤ 8192 → w ≤ 1024 → (z +ℤ pos n -ℤ pos 1 +ℤ pos w) ≤ℤ pos 2147483647
-        by z n w h k q = omega (arith, ints, h, k, q)
-
     -- so what is fetched holds the calls
     held_here : IsNearRegion h.extents → (m : LaidText) → slice_get (laid_functions a gs) n ≡ Some (Some m) → m.skeleton ≡ k → skeleton_of g fs m.region ≡ Some m.skeleton →
         g.formulas ≡ Some fs →
-        ArePlaced a g fs m → AreHeld a gs n g fs m.skeleton × AreEndsShort rs cuts × AreLeftsHeld a g fs m.region m.skeleton × AreOwnHeld a g fs m.region m.skeleton
+        ArePlaced a g fs m → AreHeld a gs n g fs m.skeleton × AreLeftsHeld a g fs m.region m.skeleton × AreOwnHeld a g fs m.region m.skeleton
     held_here close m found_there same_skeleton_so over defined settled =
         let forms : (d : ℕ) (w : NestText) → slice_get m.skeleton.nests d ≡ Some w → IsFormed xs bs d w =
         λ d w stands. formed_here d w (ap (λ (y : SkeletonText). slice_get y.nests d) (sym same_skeleton_so) ∙ stands) in
@@ -685,7 +673,6 @@ module _ (a : Algorithm) (sch : Schedule) (l : Lowered) (well : IsAlgorithm a) (
         λ d w stands ranges. subst (λ (y : SkeletonText). IsIndexed a g fs y d w) (sym same_skeleton_so)
         (boxed_here close d w (ap (λ (y : SkeletonText). slice_get y.nests d) (sym same_skeleton_so) ∙ stands) ranges) in (
           held_near a sch l well legal small kept all groups n g at fs defined m found_there over forms boxes,
-          ends_short close,
           lefts_held a sch l well legal small kept all groups n g at fs defined m found_there over forms boxes settled,
           owns_held a sch l well legal small kept all groups n g at fs defined m found_there over forms boxes settled,
         )
@@ -693,7 +680,7 @@ module _ (a : Algorithm) (sch : Schedule) (l : Lowered) (well : IsAlgorithm a) (
   -- of a group of the plan
   pub blocked_held : (n : ℕ) (q : CodeGroup) → slice_get l.plan.groups.items n ≡ Some q → (u : StoredText) → slice_get gs n ≡ Some u → IsKept a sch n u → (fs : List FormulaText) →
       u.formulas ≡ Some fs → (m : LaidText) → slice_get (laid_functions a gs) n ≡ Some (Some m) → ArePlaced a u fs m → IsNearRegion m.region →
-      AreHeld a gs n u fs m.skeleton × AreEndsShort (loop_numbers u.subject.variables u.placed.cuts m.region) u.placed.cuts × AreLeftsHeld a u fs m.region m.skeleton
+      AreHeld a gs n u fs m.skeleton × AreLeftsHeld a u fs m.region m.skeleton
       × AreOwnHeld a u fs m.region m.skeleton
   blocked_held n q theirs u at blocked fs defined m found_there set near =
       let me = made_at a sch l well legal small kept all groups n q theirs in
@@ -730,16 +717,12 @@ module _ (a : Algorithm) (sch : Schedule) (l : Lowered) (well : IsAlgorithm a) (
       let held_there : AreHeld a gs n u fs m.skeleton =
       subst (λ (y : LaidText). AreHeld a gs n u fs y.skeleton) region
       (subst (λ (vs : List FormulaText). AreHeld a gs n u vs me.laid.skeleton) formulas (subst (λ (y : StoredText). AreHeld a gs n y body.formulas me.laid.skeleton) stored here.0)) in
-      let short_there : AreEndsShort (loop_numbers u.subject.variables u.placed.cuts m.region) u.placed.cuts =
-      subst (λ (y : LaidText). AreEndsShort (loop_numbers u.subject.variables u.placed.cuts y.region) u.placed.cuts) region
-      (subst (λ (es : List Extent). AreEndsShort (loop_numbers u.subject.variables u.placed.cuts es) u.placed.cuts) (sym extents)
-      (subst (λ (y : StoredText). AreEndsShort (loop_numbers y.subject.variables y.placed.cuts body.extents) y.placed.cuts) stored here.1)) in
       let lefts_there : AreLeftsHeld a u fs m.region m.skeleton =
       subst (λ (y : LaidText). AreLeftsHeld a u fs y.region y.skeleton) region
       (subst (λ (vs : List FormulaText). AreLeftsHeld a u vs me.laid.region me.laid.skeleton) formulas
-      (subst (λ (y : StoredText). AreLeftsHeld a y body.formulas me.laid.region me.laid.skeleton) stored here.2)) in
+      (subst (λ (y : StoredText). AreLeftsHeld a y body.formulas me.laid.region me.laid.skeleton) stored here.1)) in
       let own_there : AreOwnHeld a u fs m.region m.skeleton =
       subst (λ (y : LaidText). AreOwnHeld a u fs y.region y.skeleton) region
       (subst (λ (vs : List FormulaText). AreOwnHeld a u vs me.laid.region me.laid.skeleton) formulas
-      (subst (λ (y : StoredText). AreOwnHeld a y body.formulas me.laid.region me.laid.skeleton) stored here.3)) in
-      (held_there, short_there, lefts_there, own_there)
+      (subst (λ (y : StoredText). AreOwnHeld a y body.formulas me.laid.region me.laid.skeleton) stored here.2)) in
+      (held_there, lefts_there, own_there)

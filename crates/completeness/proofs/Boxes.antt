@@ -988,7 +988,7 @@ few_still m n le h = grind (arith, nat_tests, le, h)
 module _ (scope : List Binding) (inner : List ℕ) (boxes : AreBoxes scope) (all : (m : ℕ) → m < length scope → is_inner inner m ≡ true) where
   -- the negation of the form, freed, has this one
   pub shown_above : (m nf : Form) (us : List Form) (u : Form) (e : ℤ) → negated m ≡ Some nf → eliminated scope inner nf ≡ Some us → Has u us →
-      AllByRecursion (λ (t : Multiple). is_inner inner t.symbol ≡ true) nf.terms → IsLight scope m → (e +ℤ u.constant) ≤ℤ pos 0 → unsigned_abs e ≤ 2 ^ 31 →
+      AllByRecursion (λ (t : Multiple). is_inner inner t.symbol ≡ true) nf.terms → IsLight scope m → (e +ℤ u.constant) ≤ℤ pos 0 → unsigned_abs e ≤ 2 ^ 32 →
       unsigned_abs u.constant ≤ 2 ^ 31 → at_most scope (number e) m ≡ true
   shown_above m nf us u e negation freed has among is_light le e_near u_near =
       let means = combined-means (number (pos 0)) (negsuc 0) m nf negation in
@@ -1023,7 +1023,7 @@ module _ (scope : List Binding) (inner : List ℕ) (boxes : AreBoxes scope) (all
 
   -- the form, freed, is at most the number
   pub shown_under : (m : Form) (us : List Form) (u : Form) (e : ℤ) → eliminated scope inner m ≡ Some us → Has u us → AllByRecursion (λ (t : Multiple). is_inner inner t.symbol ≡ true) m.terms →
-      IsLight scope m → u.constant ≤ℤ e → unsigned_abs e ≤ 2 ^ 31 → unsigned_abs u.constant ≤ 2 ^ 31 → at_most scope m (number e) ≡ true
+      IsLight scope m → u.constant ≤ℤ e → unsigned_abs e ≤ 2 ^ 32 → unsigned_abs u.constant ≤ 2 ^ 31 → at_most scope m (number e) ≡ true
   shown_under m us u e freed has among is_light le e_near u_near =
       let tests = tests_of (is_within_limits m) refl (nat_le (replacements_below scope inner (length scope) m) 4096) refl freed in
       let limited = tests.0 in

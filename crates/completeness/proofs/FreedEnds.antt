@@ -152,7 +152,7 @@ module _ (scope : List Binding) (boxes : AreBoxes scope) where
 
   pub whole_inside : (s : Span1) (e : Ends) (x : Extent) → ends_of scope s ≡ Some e → AllByRecursion (λ (f : Form). AreOver f.terms) s.lower → AllByRecursion (λ (f : Form). AreOver f.terms) s.upper →
       ((m nf : Form) → negated m ≡ Some nf → AreOver m.terms → AreOver nf.terms) → IsLightSpan scope s → x.low ≤ℤ e.low → e.high ≤ℤ (x.low +ℤ pos x.count -ℤ pos 1) →
-      unsigned_abs x.low ≤ 2 ^ 31 → unsigned_abs (x.low +ℤ pos x.count -ℤ pos 1) ≤ 2 ^ 31 → unsigned_abs e.low ≤ 2 ^ 31 → unsigned_abs e.high ≤ 2 ^ 31 → span_inside scope s (whole x) ≡ true
+      unsigned_abs x.low ≤ 2 ^ 32 → unsigned_abs (x.low +ℤ pos x.count -ℤ pos 1) ≤ 2 ^ 32 → unsigned_abs e.low ≤ 2 ^ 31 → unsigned_abs e.high ≤ 2 ^ 31 → span_inside scope s (whole x) ≡ true
   whole_inside s e x found lowers uppers negations light low high low_near high_near from_near to_near =
       let b = bound (projected_span scope symbols s) (λ p. ends_between (greatest_number p.lower) (least_number p.upper)) e found in
       let p = b.value in

@@ -1,6 +1,6 @@
 -- All that a statement owes is what its loops and lines owe by themselves, and what its claims do.
-use Rattle.std.proofs.Common.{◌≡◌, ℕ, ◌+◌, ◌-◌, Bool, true, false, ◌&&◌, not, List, [], ◌∷◌, ◌++◌, refl}
-use Rattle.std.specs.Prelude.{flat_map}
+use Rattle.std.proofs.Common.{ℕ, ◌+◌, ◌-◌, Bool, true, false, ◌&&◌, not, List, [], ◌∷◌, ◌++◌, refl}
+use Rattle.std.specs.Prelude.{◌≡◌, flat_map, Some, slice_get}
 use Rattle.std.specs.List.{AllByRecursion, list_all}
 use Rattle.plan.specs.declared.certificate.cert.Window.{Window}
 use Rattle.plan.specs.Plan.{Statement, Seq, For, Let, First, Guard, Alloc, Fetch, Store, Publish, Statements, Empty, Then, Group, Plan}
@@ -10,14 +10,23 @@ use Rattle.plan.specs.Certificate.Certificate.{Certificate, certificate_of}
 use Rattle.meaning.specs.Algorithm.{Algorithm}
 use Rattle.soundness.specs.Origins.{Outline}
 use Rattle.soundness.specs.Given.{outline_of}
-use Rattle.soundness.specs.Obligations.{Known, Rules, Undefined, Named, has_symbol, obligation, without, kept_of, within, onwards, in_block, in_loop, in_guard}
+use Rattle.soundness.specs.Obligations.{Known, Rules, Obligation, Undefined, Named, has_symbol, obligation, without, kept_of, within, onwards, in_block, in_loop, in_guard}
 use Rattle.soundness.specs.Obligations.{claim_obligations, turn_obligations, block_obligations, obligations}
 use Rattle.soundness.specs.Shown.{Nests, is_shown, all_shown, start}
 use Rattle.soundness.specs.Binders.View.{grid_binders}
+use Rattle.soundness.proofs.Refines.{and_parts}
+use Rattle.meaning.specs.Conditions.{IsAlgorithm}
+use Rattle.sched.specs.Schedule.{Schedule}
+use Rattle.sched.specs.Legal.{IsLegal}
+use Rattle.lower.specs.declared.lowering.Lowered.{Lowered}
+use Rattle.lower.specs.Stored.{stored_functions}
+use Rattle.lower.specs.Faults.{are_whole}
+use Rattle.lower.specs.Refused.{AreSmall, AreRegionsKept}
+use Rattle.lower.specs.Groups.{AreGroupsMade}
 use Rattle.rules.specs.Bounding.Rules.{rules_of}
 use Rattle.completeness.specs.Laws.{IsStep, IsAlloc, IsFetch, IsPublish, IsStore}
 use Rattle.completeness.specs.Owed.{EachLine, EachOf, EachOwn, OwnOf, EachClaim, ClaimsOf, own_obligations, TakePlain}
-use Rattle.completeness.specs.Owed.{StatementsOweTheirOwn, StoresAndNestsAreLeft}
+use Rattle.completeness.specs.Owed.{AreGridsFew, AreClaimsNear, StatementsOweTheirOwn, StoresAndNestsAreLeft}
 use Rattle.completeness.proofs.AllocShown.{shown as allocs_shown}
 use Rattle.completeness.proofs.FetchSeats.{shown as fetches_shown}
 use Rattle.completeness.proofs.PublishShown.{shown as publish_shown}
@@ -44,24 +53,25 @@ paired P Q R w (x ∷ xs) h k = (w x h.0 k.0, paired P Q R w xs h.1 k.1)
 
 -- ---- statements
 
-module _ (outline : Outline) (rules : Rules) (nests : Nests) where
-  abbrev OwnMet : Statement → ℕ → Known → Type 0
-  OwnMet s line known = all_shown rules nests (own_obligations outline rules s line known) ≡ true
+-- what is so of all that loops and lines owe by themselves, and claims do, is so of all that a statement owes
+module _ (outline : Outline) (rules : Rules) (met : Obligation → Bool) where
+  abbrev pub OwnMet : Statement → ℕ → Known → Type 0
+  OwnMet s line known = list_all met (own_obligations outline rules s line known) ≡ true
 
-  abbrev ClaimMet : List Window → ℕ → ℕ → Known → Statement → ℕ → Type 0
-  ClaimMet kept begin last known s c = all_shown rules nests (claim_obligations outline rules kept begin last known s c) ≡ true
+  abbrev pub ClaimMet : List Window → ℕ → ℕ → Known → Statement → ℕ → Type 0
+  ClaimMet kept begin last known s c = list_all met (claim_obligations outline rules kept begin last known s c) ≡ true
 
   mutual
     each_met : (kept : List Window) (s : Statement) (line : ℕ) (known : Known) → EachOwn outline rules OwnMet s line known → EachClaim outline rules ClaimMet kept s line known →
-        all_shown rules nests (turn_obligations outline rules kept s line known) ≡ true
+        list_all met (turn_obligations outline rules kept s line known) ≡ true
     each_met kept (Seq all) line known h k = all_met kept all line (in_block outline rules known) h k
     each_met kept (For i x kind body) line known h k =
-        joined (is_shown rules nests) (obligation outline rules Undefined line known (Named (not (has_symbol outline rules i x known))) ∷ [])
+        joined met (obligation outline rules Undefined line known (Named (not (has_symbol outline rules i x known))) ∷ [])
         (turn_obligations outline rules (kept_of outline rules i body (line + 1)) body (line + 1) (in_loop outline rules i x body known)) h.0
         (each_met (kept_of outline rules i body (line + 1)) body (line + 1) (in_loop outline rules i x body known) h.1 k)
     each_met kept (Let i pick fs) line known h k = h
     each_met kept (First i a b) line known h k =
-        joined (is_shown rules nests) (turn_obligations outline rules [] a (line + 1) (in_block outline rules known))
+        joined met (turn_obligations outline rules [] a (line + 1) (in_block outline rules known))
         (turn_obligations outline rules [] b (line + 2 + lines a) (in_block outline rules known)) (each_met [] a (line + 1) (in_block outline rules known) h.0 k.0)
         (each_met [] b (line + 2 + lines a) (in_block outline rules known) h.1 k.1)
     each_met kept (Guard low high body) line known h k = each_met [] body (line + 1) (in_guard outline rules low high known) h k
@@ -71,53 +81,69 @@ module _ (outline : Outline) (rules : Rules) (nests : Nests) where
     each_met kept (Publish c) line known h k = h
 
     all_met : (kept : List Window) (all : Statements) (line : ℕ) (known : Known) → OwnOf outline rules OwnMet all line known → ClaimsOf outline rules ClaimMet kept all line known →
-        all_shown rules nests (block_obligations outline rules kept all line known) ≡ true
+        list_all met (block_obligations outline rules kept all line known) ≡ true
     all_met kept Empty line known h k = refl
     all_met kept (Then a rest) line known h k =
         let next = outline.named (line + lines a - 1) in
         let first = turn_obligations outline rules [] a line (within outline rules a next known) in
         let claims = flat_map (claim_obligations outline rules kept line (line + lines a - 1) known a) next in
         let others = block_obligations outline rules (without next kept) rest (line + lines a) (onwards outline rules a next known) in
-        joined (is_shown rules nests) first (claims ++ others) (each_met [] a line (within outline rules a next known) h.0 k.0)
-        (joined (is_shown rules nests) claims others
-        (flattened (is_shown rules nests) (claim_obligations outline rules kept line (line + lines a - 1) known a) next k.1)
+        joined met first (claims ++ others) (each_met [] a line (within outline rules a next known) h.0 k.0)
+        (joined met claims others
+        (flattened met (claim_obligations outline rules kept line (line + lines a - 1) known a) next k.1)
         (all_met (without next kept) rest (line + lines a) (onwards outline rules a next known) h.1 k.2))
 
 pub owed : StatementsOweTheirOwn
-owed outline rules nests s line known h k = each_met outline rules nests [] s line known h k
+owed outline rules nests s line known h k = each_met outline rules (is_shown rules nests) [] s line known h k
 
 -- ---- kinds of statements
 
-module _ (outline : Outline) (rules : Rules) (nests : Nests) where
+-- what is shown is met
+pub all_weaker : (f g : Obligation → Bool) → ((o : Obligation) → f o ≡ true → g o ≡ true) → (os : List Obligation) → list_all f os ≡ true → list_all g os ≡ true
+all_weaker f g w [] h = refl
+all_weaker f g w (o ∷ os) h =
+    let parts = and_parts (f o) (list_all f os) h in
+    let here = w o parts.0 in
+    let rest = all_weaker f g w os parts.1 in
+    λ i. here i && rest i
+
+module _ (outline : Outline) (rules : Rules) (nests : Nests) (met : Obligation → Bool) (shown_met : (o : Obligation) → is_shown rules nests o ≡ true → met o ≡ true) where
+  weaker : (os : List Obligation) → all_shown rules nests os ≡ true → list_all met os ≡ true
+  weaker os h = all_weaker (is_shown rules nests) met shown_met os h
+
   abbrev Owed : (Statement → Type 0) → Statement → ℕ → Known → Type 0
   Owed IsOne s line known = IsOne s → (tests : Nests) → all_shown rules tests (obligations outline rules s line known) ≡ true
 
   abbrev StepOwed : Statement → ℕ → Known → Type 0
   StepOwed s line known = IsStep s → (tests : Nests) → all_shown rules tests (own_obligations outline rules s line known) ≡ true
 
-  abbrev StoreOwed : Statement → ℕ → Known → Type 0
-  StoreOwed s line known = IsStore s → all_shown rules nests (obligations outline rules s line known) ≡ true
+  abbrev pub StoreOwed : Statement → ℕ → Known → Type 0
+  StoreOwed s line known = IsStore s → list_all met (obligations outline rules s line known) ≡ true
 
   mutual
     own_met : (s : Statement) (line : ℕ) (known : Known) → EachOwn outline rules StepOwed s line known → EachLine outline rules (Owed IsAlloc) s line known →
         EachLine outline rules (Owed IsFetch) s line known → EachLine outline rules (Owed IsPublish) s line known → EachLine outline rules StoreOwed s line known →
-        EachOwn outline rules (OwnMet outline rules nests) s line known
+        EachOwn outline rules (OwnMet outline rules met) s line known
     own_met (Seq all) line known t a f p s = all_own all line (in_block outline rules known) t a f p s
-    own_met (For i x kind body) line known t a f p s = (t.0 tt nests, own_met body (line + 1) (in_loop outline rules i x body known) t.1 a f p s)
-    own_met (Let i pick fs) line known t a f p s = t tt nests
+    own_met (For i x kind body) line known t a f p s = (
+      weaker (own_obligations outline rules (For i x kind body) line known) (t.0 tt nests),
+      own_met body (line + 1) (in_loop outline rules
+          i x body known) t.1 a f p s,
+    )
+    own_met (Let i pick fs) line known t a f p s = weaker (own_obligations outline rules (Let i pick fs) line known) (t tt nests)
     own_met (First i b c) line known t a f p s = (
       own_met b (line + 1) (in_block outline rules known) t.0 a.0 f.0 p.0 s.0,
       own_met c (line + 2 + lines b) (in_block outline rules known) t.1 a.1 f.1 p.1 s.1,
     )
     own_met (Guard low high body) line known t a f p s = own_met body (line + 1) (in_guard outline rules low high known) t a f p s
-    own_met (Alloc b x places) line known t a f p s = a tt nests
-    own_met (Fetch b g region) line known t a f p s = f tt nests
+    own_met (Alloc b x places) line known t a f p s = weaker (obligations outline rules (Alloc b x places) line known) (a tt nests)
+    own_met (Fetch b g region) line known t a f p s = weaker (obligations outline rules (Fetch b g region) line known) (f tt nests)
     own_met (Store b d at e) line known t a f p s = s tt
-    own_met (Publish c) line known t a f p s = p tt nests
+    own_met (Publish c) line known t a f p s = weaker (obligations outline rules (Publish c) line known) (p tt nests)
 
     all_own : (all : Statements) (line : ℕ) (known : Known) → OwnOf outline rules StepOwed all line known → EachOf outline rules (Owed IsAlloc) all line known →
         EachOf outline rules (Owed IsFetch) all line known → EachOf outline rules (Owed IsPublish) all line known → EachOf outline rules StoreOwed all line known →
-        OwnOf outline rules (OwnMet outline rules nests) all line known
+        OwnOf outline rules (OwnMet outline rules met) all line known
     all_own Empty line known t a f p s = tt
     all_own (Then b rest) line known t a f p s =
         let next = outline.named (line + lines b - 1) in
@@ -155,7 +181,8 @@ module _ (outline : Outline) (rules : Rules) (P Q R : List Window → ℕ → �
 
 -- ---- groups
 
-module _ (a : Algorithm) (p : Plan) (c : Certificate) (n : ℕ) (g : Group) (nests : Nests) (takes : TakePlain a p c n g nests) where
+module _ (a : Algorithm) (p : Plan) (c : Certificate) (n : ℕ) (g : Group) (nests : Nests) (takes : TakePlain a p c n g nests) (met : Obligation → Bool)
+    (shown_met : (o : Obligation) → is_shown (rules_of a p c n) nests o ≡ true → met o ≡ true) where
   abbrev O : Outline
   O = outline_of p c n g
 
@@ -164,29 +191,40 @@ module _ (a : Algorithm) (p : Plan) (c : Certificate) (n : ℕ) (g : Group) (nes
 
   either_way : (kept : List Window) (begin last : ℕ) (known : Known) (s : Statement) (m : ℕ) →
       (IsFetch s → (tests : Nests) → TakePlain a p c n g tests → all_shown R tests (claim_obligations O R kept begin last known s m) ≡ true) →
-      ((IsFetch s → ⊥) → ClaimMet O R nests kept begin last known s m) → ClaimMet O R nests kept begin last known s m
+      ((IsFetch s → ⊥) → ClaimMet O R met kept begin last known s m) → ClaimMet O R met kept begin last known s m
   either_way kept begin last known (Seq all) m f k = k (λ x. x)
   either_way kept begin last known (For i x kind body) m f k = k (λ x. x)
   either_way kept begin last known (Let i pick fs) m f k = k (λ x. x)
   either_way kept begin last known (First i b d) m f k = k (λ x. x)
   either_way kept begin last known (Guard low high body) m f k = k (λ x. x)
   either_way kept begin last known (Alloc b x places) m f k = k (λ x. x)
-  either_way kept begin last known (Fetch b h region) m f k = f tt nests takes
+  either_way kept begin last known (Fetch b h region) m f k = weaker O R nests met shown_met (claim_obligations O R kept begin last known (Fetch b h region) m) (f tt nests takes)
   either_way kept begin last known (Store b d at e) m f k = k (λ x. x)
   either_way kept begin last known (Publish d) m f k = k (λ x. x)
 
-pub left : StoresAndNestsAreLeft
-left a s l well legal small regions groups all asked n g at nests takes stores claims =
+-- all that a group's body owes is met, where all that is shown is, and what its stores and the claims of its nests owe is
+pub left_by : (a : Algorithm) (s : Schedule) (l : Lowered) → IsAlgorithm a → IsLegal a s → AreSmall a s → AreRegionsKept a s → AreGroupsMade a s l → are_whole (stored_functions a s) ≡ true →
+    AreGridsFew (plan_of l.plan) → AreClaimsNear (certificate_of l.certificate) → (n : ℕ) (g : Group) → slice_get (plan_of l.plan).groups n ≡ Some g →
+    let p = plan_of l.plan in let c = certificate_of l.certificate in let o = outline_of p c n g in let r = rules_of a p c n in
+    (nests : Nests) → TakePlain a p c n g nests → (met : Obligation → Bool) → ((x : Obligation) → is_shown r nests x ≡ true → met x ≡ true) →
+    EachLine o r (λ t line k. IsStore t → list_all met (obligations o r t line k) ≡ true) g.body (body_line p n) (start (grid_binders g.grid)) →
+    EachClaim o r (λ kept begin last k t m. ¬ IsFetch t → list_all met (claim_obligations o r kept begin last k t m) ≡ true) [] g.body (body_line p n) (start (grid_binders g.grid)) →
+    list_all met (obligations o r g.body (body_line p n) (start (grid_binders g.grid))) ≡ true
+left_by a s l well legal small regions groups all grids near n g at nests takes met shown_met stores claims =
     let p = plan_of l.plan in
     let c = certificate_of l.certificate in
     let o = outline_of p c n g in
     let r = rules_of a p c n in
     let known = start (grid_binders g.grid) in
-    let own = own_met o r nests g.body (body_line p n) known (steps_shown a s l well legal small regions groups all tt n g at)
-    (allocs_shown a s l well legal small regions groups all tt n g at) (fetches_shown a s l well legal small regions groups all asked.0 n g at)
-    (publish_shown a s l well legal small regions groups all asked.1 n g at) stores in
+    let own = own_met o r nests met shown_met g.body (body_line p n) known (steps_shown a s l well legal small regions groups all tt n g at)
+    (allocs_shown a s l well legal small regions groups all tt n g at) (fetches_shown a s l well legal small regions groups all grids n g at)
+    (publish_shown a s l well legal small regions groups all near n g at) stores in
     let made = claims_paired o r
     (λ kept begin last k t m. IsFetch t → (tests : Nests) → TakePlain a p c n g tests → all_shown r tests (claim_obligations o r kept begin last k t m) ≡ true)
-    (λ kept begin last k t m. (IsFetch t → ⊥) → ClaimMet o r nests kept begin last k t m) (ClaimMet o r nests) (either_way a p c n g nests takes) [] g.body (body_line p n) known
-    (all_made a s l well legal small regions groups all asked n g at) claims in
-    owed o r nests g.body (body_line p n) known own made
+    (λ kept begin last k t m. (IsFetch t → ⊥) → ClaimMet o r met kept begin last k t m) (ClaimMet o r met) (either_way a p c n g nests takes met shown_met) [] g.body (body_line p n) known
+    (all_made a s l well legal small regions groups all (grids, near) n g at) claims in
+    each_met o r met [] g.body (body_line p n) known own made
+
+pub left : StoresAndNestsAreLeft
+left a s l well legal small regions groups all asked n g at nests takes stores claims =
+    left_by a s l well legal small regions groups all asked.0 asked.1 n g at nests takes (is_shown (rules_of a (plan_of l.plan) (certificate_of l.certificate) n) nests) (λ o h. h) stores claims

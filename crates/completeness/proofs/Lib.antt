@@ -69,6 +69,8 @@ pub mod NamedClaims
 pub mod FetchClaims
 pub mod Fresh
 pub mod StepsShown
+pub mod WideLines
+pub mod StoreDebts
 pub mod Joined
 pub mod InForce
 pub mod StoreNames
@@ -139,6 +141,7 @@ pub mod ShortShifts
 pub mod StepsThere
 pub mod TailReady
 pub mod StoreShapes
+pub mod FarPlaces
 pub mod StoreTails
 pub mod WholeDims
 pub mod BlockStores

@@ -1,11 +1,11 @@
 -- What the checker tells of a plan whose schedule splits loops once at most is a limit.
-use Rattle.std.proofs.Common.{◌≡◌, ℕ, suc, Bool, true, ◌||◌, List, [], ◌∷◌, Some, refl, ap, ◌∙◌}
+use Rattle.std.proofs.Common.{◌≡◌, ℕ, suc, List, [], ◌∷◌, Some, refl, ap, ◌∙◌, inl, inr, ◌⊎◌}
 use Rattle.std.specs.Prelude.{slice_get}
 use Rattle.std.specs.List.{AllByRecursion}
 use Rattle.meaning.specs.Algorithm.{Algorithm}
-use Rattle.plan.specs.Plan.{Group, Plan}
+use Rattle.plan.specs.Plan.{Group}
 use Rattle.plan.specs.View.{group_of, plan_of}
-use Rattle.plan.specs.Certificate.Certificate.{Certificate, certificate_of}
+use Rattle.plan.specs.Certificate.Certificate.{certificate_of}
 use Rattle.soundness.specs.Given.{outline_of}
 use Rattle.soundness.specs.Nests.Laws.{domains_of}
 use Rattle.rules.specs.Bounding.Rules.{rules_of}
@@ -18,7 +18,6 @@ use Rattle.lower.specs.Stored.{stored_functions}
 use Rattle.completeness.specs.Parted.{KeepsInner, InnersAreKept}
 use Rattle.completeness.specs.Laws.{AreSplitOnce, AreLinesTold, Stands}
 use Rattle.completeness.specs.Owed.{AreGridsFew, AreSymbolsFew, AreClaimsNear}
-use Rattle.completeness.specs.Nested.{TakeSplit}
 use Rattle.completeness.specs.Fitting.{SplitsOnce}
 use Rattle.completeness.specs.Told.{SplitsPlainly, LimitsAloneAreTold}
 use Rattle.completeness.proofs.Shared.{shared, limits as shares_limits, heads}
@@ -29,17 +28,12 @@ use Rattle.completeness.proofs.FewLines.{lines_told, grids_few, symbols_few}
 use Rattle.completeness.proofs.NamesRead.{named_no_load}
 use Rattle.completeness.proofs.NearClaims.{claims_near}
 use Rattle.completeness.proofs.StoreLaw.{near_blocked_owed}
+use Rattle.completeness.proofs.BlockStores.{slid_take}
+use Rattle.completeness.specs.Filled.{IsShownElsewhere}
 
 each_at : {A : Type 0} (P : A → Type 0) (xs : List A) → ((i : ℕ) (x : A) → slice_get xs i ≡ Some x → P x) → AllByRecursion P xs
 each_at P [] h = tt
 each_at P (x ∷ xs) h = (h 0 x refl, each_at P xs (λ i y e. h (suc i) y e))
-
-or_true : (b d : Bool) → b ≡ true → (b || d) ≡ true
-or_true b d e = ap (λ (v : Bool). v || d) e
-
--- the checker's tests of nests say yes to what those of split nests do
-slid_take : (a : Algorithm) (p : Plan) (c : Certificate) (n : ℕ) (g : Group) → TakeSplit a p c n g (slid_nests (outline_of p c n g) (rules_of a p c n) (domains_of a))
-slid_take a p c n g = ((λ bs m from places t e. or_true _ _ e), (λ bs m t e. e))
 
 module _ (a : Algorithm) (s : Schedule) (fills : SplitsPlainly a s) where
   inners : InnersAreKept a s
@@ -60,6 +54,7 @@ limits_alone a s l well legal small regions groups fills named =
       head = λ line. heads a p c line stands;
       groups = told a s l well legal small regions groups fills.whole (named_no_load a named) lines_stand (once a s fills);
       shown = λ n g at. shown_at n g at;
+      lines = lines_stand;
       certificate = certificate_limits a s l well legal small (regions fills.whole).0 fills.whole groups (splits_once a s fills).once stands.lines;
       shares = λ f. shares_limits a p c f stands;
       output = λ n g at is q within. ap (λ (o : _). has_point o q) at ∙ stands.output.inside n g at is q within;
@@ -79,12 +74,15 @@ limits_alone a s l well legal small regions groups fills named =
 
     shown_at : (n : ℕ) (g : Group) → slice_get (plan_of l.plan).groups n ≡ Some g →
         IsShown (rules_of a (plan_of l.plan) (certificate_of l.certificate) n) a (plan_of l.plan) (certificate_of l.certificate) n g
+        ⊎ IsShownElsewhere a (plan_of l.plan) (certificate_of l.certificate) n g
     shown_at n g at =
         let p = plan_of l.plan in
         let c = certificate_of l.certificate in
         let x = from_map group_of l.plan.groups.items n g at in
         let me = made_at a s l well legal small (regions fills.whole).0 fills.whole groups n x.0 x.1 in
-        near_blocked_owed a s l well legal small regions groups fills.whole (named_no_load a named) lines_stand grids symbols near n g at me.stored me.is (fills.tailed n me.stored me.is) me.formulas
-        me.defined me.laid me.found (fills.placed n me.stored me.is me.formulas me.defined me.laid me.found) (fills.near n me.stored me.is me.formulas me.defined me.laid me.found) (slid_nests
-        (outline_of p c n g) (rules_of a p c n) (domains_of a))
-        (slid_take a p c n g)
+        elim (near_blocked_owed a s l well legal small regions groups fills.whole (named_no_load a named) lines_stand grids symbols near n g at me.stored me.is
+        (fills.tailed n me.stored me.is) me.formulas me.defined me.laid me.found (fills.placed n me.stored me.is me.formulas me.defined me.laid me.found)
+        (fills.near n me.stored me.is me.formulas me.defined me.laid me.found)) [
+          | inl shown ↦ inl (shown (slid_nests (outline_of p c n g) (rules_of a p c n) (domains_of a)) (slid_take a p c n g))
+          | inr elsewhere ↦ inr elsewhere
+        ]

@@ -47,6 +47,8 @@ use Rattle.algo.specs.Scoping.Standing.{Written, written as written_call, calls_
 use Rattle.rules.specs.Bounding.Called.{called, call_of, source_call}
 use Rattle.rules.specs.Bounding.Scopes.{scope_of}
 use Rattle.rules.specs.Bounding.Rules.{is_index_span, rules_of}
+use Rattle.rules.specs.Widths.Widths.{is_i32}
+use Rattle.completeness.proofs.WideLines.{IsWideStore, StoresIntoOwn}
 use Rattle.headline.proofs.Lists.{at_left, at_map, from_map}
 use Rattle.sched.specs.Schedule.{Schedule}
 use Rattle.sched.specs.Legal.{IsLegal, said, loops_after}
@@ -122,19 +124,20 @@ use Rattle.completeness.proofs.RangedLefts.{left_got, interval_agrees, left_of_u
 -- ---- forms
 
 -- a form that a variable's name stands for in the definition of this number: of updates the claims' region is asked as well
-pub record IsRightForm (R : Rules) (known : Known) (place_of : List ℕ → Places) (claim_of_var : List ℕ → Span1) (d : ℕ) (x : List ℕ) (f : Form) : Type 0 where
-  pub inside : is_index_span (scope_of known.binders) (exactly f) ≡ true
+pub record IsRightForm (Early : Type 0) (R : Rules) (known : Known) (place_of : List ℕ → Places) (claim_of_var : List ℕ → Span1) (d : ℕ) (x : List ℕ) (f : Form) : Type 0 where
+  pub inside : Early → is_index_span (scope_of known.binders) (exactly f) ≡ true
   pub seated : is_seated R known.binders (exactly f) (place_of x) ≡ true
   pub within : 0 < d → is_within R known.binders (exactly f) (claim_of_var x) ≡ true
   pub kept : is_within_limits f ≡ true
 
 -- what is known at the store of a nest
-pub record IsReadyNest (R : Rules) (fs : List FormulaText) (place_of : List ℕ → Places) (claim_of_var : List ℕ → Span1) (xs rn : List (List ℕ)) (d : ℕ) (w : NestText) (known : Known) : Type 0 where
+pub record IsReadyNest (Early : Type 0) (R : Rules) (fs : List FormulaText) (place_of : List ℕ → Places) (claim_of_var : List ℕ → Span1) (xs rn : List (List ℕ)) (d : ℕ) (w : NestText)
+    (known : Known) : Type 0 where
   pub names : List KnownForm
   pub body : BodyText
   pub missing : (u : FormulaText) → slice_get fs d ≡ Some u → body.missing ≡ missing_from 0 u.at
   pub forms : w.at ≡ variables_at body 0 xs names ++ map (form_named names) rn
-  pub each : (x : List ℕ) → In x xs → (f : Form) → form_named names x ≡ Some f → IsRightForm R known place_of claim_of_var d x f
+  pub each : (x : List ℕ) → In x xs → (f : Form) → form_named names x ≡ Some f → IsRightForm Early R known place_of claim_of_var d x f
   pub over : (x : List ℕ) → In x rn → (f : Form) → form_named names x ≡ Some f → is_index_span (scope_of known.binders) (exactly f) ≡ true
 
 long_taken : {A : Type 0} (m : ℕ) (xs : List A) → m ≤ length xs → length (take m xs) ≡ m
@@ -331,8 +334,8 @@ module _ (a : Algorithm) (sch : Schedule) (l : Lowered) (well : IsAlgorithm a) (
       (whole_dims : (j d : ℕ) (u : FormulaText) (e : Term) (x : List ℕ) (z : Extent) → slice_get h.formulas d ≡ Some u → slice_get u.at j ≡ Some (Some e) → slice_get f.variables j ≡ Some x →
       slice_get h.extents j ≡ Some z → (y : Extent) × GoesOn z y × (place_of x ≡ From (number y.low) y.count) × (claim_of_var x ≡ whole y)) (long_extents : length h.extents ≡ length f.variables)
       (dims_are : (outline_of plan cert n (group_of q)).setting.dimensions 0 ≡ length f.variables)
-      (ready_nest : (d : ℕ) (w : NestText) → slice_get h.skeleton.nests d ≡ Some w → (known : Known) → scope_of known.binders ≡ bind_steps (head_scope h.skeleton) w.steps →
-      IsReadyNest (rules_of a plan cert n) h.formulas place_of claim_of_var f.variables (range_names (ranges_of f.changes d)) d w known)
+      (Early : Type 0) (ready_nest : (d : ℕ) (w : NestText) → slice_get h.skeleton.nests d ≡ Some w → (known : Known) → scope_of known.binders ≡ bind_steps (head_scope h.skeleton) w.steps →
+      IsReadyNest Early (rules_of a plan cert n) h.formulas place_of claim_of_var f.variables (range_names (ranges_of f.changes d)) d w known)
       (bound_all : EachLine (outline_of plan cert n (group_of q)) (rules_of a plan cert n)
       (λ s i y. BoundHere (texts f) h.formulas h.skeleton.nests (own_places (dimensions_of (texts f) h.extents h.skeleton)) (head_scope h.skeleton) s i y) (statement_of q.body) (body_line plan n)
       (start (grid_binders q.grid.items))) where
@@ -408,6 +411,10 @@ module _ (a : Algorithm) (sch : Schedule) (l : Lowered) (well : IsAlgorithm a) (
 
     -- ---- a nest
 
+    -- each coordinate that is a form is shown to be an i32
+    abbrev AreFit : Known → List Coordinate → Type 0
+    AreFit known cs = (j : ℕ) (c : Coordinate) (f : Form) → slice_get cs j ≡ Some c → c.index ≡ At f → is_index_span (scope_of known.binders) (exactly f) ≡ true
+
     module _ (d : ℕ) (w : NestText) (stands : slice_get k.nests d ≡ Some w) (u : FormulaText) (defined : slice_get fs d ≡ Some u) where
       abbrev ms : Loads
       ms = all_loads g fs k.nests places fetches first d
@@ -465,7 +472,7 @@ module _ (a : Algorithm) (sch : Schedule) (l : Lowered) (well : IsAlgorithm a) (
       module _ (nests : Nests) (at_line : ℕ) (known : Known) (cs : List Coordinate) (e : Term) (stores : IsStore g fs ms d w (Store 0 d cs e))
           (is : IsStored ms (names_with f.variables f.changes d) w cs e u) (scoped : scope_of known.binders ≡ bind_steps (head_scope k) w.steps)
           (held_here : AreLoaded g fs k.nests places fetches first known) (own_here : places_of known.buffers 0 ≡ Some places)
-          (under : AllByRecursion (λ v. NamedIn O R (line + 1) (line + (lines (statement_of q.body) + 1)) v.next) known.updating) where
+          (under : AllByRecursion (λ v. NamedIn O R (line + 1) (line + (lines (statement_of q.body) + 1)) v.next) known.updating) (fit : Early ⊎ AreFit known cs) where
         abbrev m : ℕ
         m = O.setting.dimensions 0
 
@@ -494,7 +501,7 @@ module _ (a : Algorithm) (sch : Schedule) (l : Lowered) (well : IsAlgorithm a) (
         abbrev scope : List Binding
         scope = scope_of known.binders
 
-        nest_ready : IsReadyNest R fs place_of claim_of_var f.variables rn d w known
+        nest_ready : IsReadyNest Early R fs place_of claim_of_var f.variables rn d w known
         nest_ready = ready_nest d w stands known scoped
 
         fb : IsBoundedAt a g (head_scope k) regions d u w
@@ -547,7 +554,7 @@ module _ (a : Algorithm) (sch : Schedule) (l : Lowered) (well : IsAlgorithm a) (
         coordinates_here = subst (λ (os : List (Option Form)). AreCoordinates ms (f.variables ++ rn) os u.at cs) nest_ready.forms is.at
 
         abbrev IsRight : List ℕ → Form → Type 0
-        IsRight x c = IsRightForm R known place_of claim_of_var d x c
+        IsRight x c = IsRightForm Early R known place_of claim_of_var d x c
 
         abbrev IsInside : List ℕ → Form → Type 0
         IsInside x c = is_index_span scope (exactly c) ≡ true
@@ -680,15 +687,19 @@ module _ (a : Algorithm) (sch : Schedule) (l : Lowered) (well : IsAlgorithm a) (
         same_of : (t : Term) → EachCall SourceIs t → EachCall IsSame t
         same_of t from = each_call-weaker SourceIs IsSame (λ x es z. z.0) t from
 
+        -- a coordinate that is a form is shown to be an i32
+        form_inside : (x : List ℕ) (j : ℕ) (c : Coordinate) → slice_get at' j ≡ Some c → (z : (f : Form) × (c.index ≡ At f) × IsRight x f) → is_index_span scope (exactly z.0) ≡ true
+        form_inside x j c at_c z = elim fit [ inl early ↦ z.2.inside early | inr all_fit ↦ all_fit j c z.0 (taken_got m cs j c at_c) z.1 ]
+
         left_inside : list_all (is_index_span scope) left ≡ true
         left_inside =
             ap (list_all (is_index_span scope)) left_parts
             ∙ list_both (is_index_span scope) (map (variable_span O R) at') (map (variable_span O R) over)
-            (all_by (variable_span O R) (is_index_span scope) at' (λ j c at_c. (let z = placed_at j c at_c in one z.0 j c z.2))) over_inside
+            (all_by (variable_span O R) (is_index_span scope) at' (λ j c at_c. (let z = placed_at j c at_c in one z.0 j c at_c z.2))) over_inside
           where
-            one : (x : List ℕ) (j : ℕ) (c : Coordinate) → IsAtPlace j x c → is_index_span scope (variable_span O R c) ≡ true
-            one x j c (inl (z, none)) = ap (λ (i : Index). is_index_span scope (index_span O R i)) z.1 ∙ z.2.inside
-            one x j c (inr (t, at_t, found_by)) = ap (λ (i : Index). is_index_span scope (index_span O R i)) found_by ∙ zero_inside scope
+            one : (x : List ℕ) (j : ℕ) (c : Coordinate) → slice_get at' j ≡ Some c → IsAtPlace j x c → is_index_span scope (variable_span O R c) ≡ true
+            one x j c at_c (inl (z, none)) = ap (λ (i : Index). is_index_span scope (index_span O R i)) z.1 ∙ form_inside x j c at_c z
+            one x j c at_c (inr (t, at_t, found_by)) = ap (λ (i : Index). is_index_span scope (index_span O R i)) found_by ∙ zero_inside scope
 
         left_long_so : (length names == length left) ≡ true
         left_long_so = (λ i. length-map (at' ++ over) (λ (c : Coordinate). c.variable) i == length-map (at' ++ over) (variable_span O R) i) ∙ eq_refl (length (at' ++ over))
@@ -804,7 +815,7 @@ module _ (a : Algorithm) (sch : Schedule) (l : Lowered) (well : IsAlgorithm a) (
             (all_by T (is_index_span scope) at' (λ j c at_c. (let z = placed_at j c at_c in one z.0 j c z.1 at_c z.2))) over_inside
           where
             one : (x : List ℕ) (j : ℕ) (c : Coordinate) → slice_get xs j ≡ Some x → slice_get at' j ≡ Some c → IsAtPlace j x c → is_index_span scope (T c) ≡ true
-            one x j c at_x at_c (inl (z, none)) = ap (is_index_span scope) (ap (index_place O R known names left) z.1) ∙ z.2.inside
+            one x j c at_x at_c (inl (z, none)) = ap (is_index_span scope) (ap (index_place O R known names left) z.1) ∙ form_inside x j c at_c z
             one x j c at_x at_c (inr (t, at_t, found_by)) = (let z = extent_at j x at_x in let dims = whole_dims j d u t x z.0 defined at_t at_x z.1 in (held_left j c at_c t at_t z.0 dims.0
                 z.1 dims.1).1)
 
@@ -1186,39 +1197,88 @@ module _ (a : Algorithm) (sch : Schedule) (l : Lowered) (well : IsAlgorithm a) (
     AllShown s at_line known = IsStoreLine s → (nests : Nests) → Shows O R nests More (obligations O R s at_line known)
 
     one_store : (b m : ℕ) (cs : List Coordinate) (e : Term) (at_line : ℕ) (known : Known) (nests : Nests) → StoreAt g fs k.nests places fetches first (Store b m cs e) known →
-        BoundAt g fs k.nests places (head_scope k) (Store b m cs e) known → Under (Store b m cs e) at_line known → Shows O R nests More (obligations O R (Store b m cs e) at_line known)
-    one_store b m cs e at_line known nests x y under =
+        BoundAt g fs k.nests places (head_scope k) (Store b m cs e) known → Under (Store b m cs e) at_line known → Early ⊎ AreFit known cs →
+        Shows O R nests More (obligations O R (Store b m cs e) at_line known)
+    one_store b m cs e at_line known nests x y under fit =
         let d = x.definition in
         let one : y.definition ≡ d = sym y.stores.1 ∙ x.stores.1 in
         let y_nest : y.nest ≡ x.nest = some_same y.nest x.nest (sym (ap (slice_get k.nests) (sym one) ∙ y.stands) ∙ x.stands) in
         let stored = subst (λ (ls : Loads). IsStore g fs ls d x.nest (Store b m cs e)) x.loaded x.stores in
         let u = some_and (IsStored (all_loads g fs k.nests places fetches first d) (names_with f.variables f.changes d) x.nest cs e) (slice_get fs d) stored.2 in
         let scoped : scope_of known.binders ≡ bind_steps (head_scope k) x.nest.steps = y.scoped ∙ ap (λ (w : NestText). bind_steps (head_scope k) w.steps) y_nest in
-        let shown_here = store_shows d x.nest x.stands u.0 u.1 nests at_line known cs e (refl, refl, stored.2) u.2 scoped x.held x.own under in
+        let shown_here = store_shows d x.nest x.stands u.0 u.1 nests at_line known cs e (refl, refl, stored.2) u.2 scoped x.held x.own under fit in
         subst (λ (s : Statement). Shows O R nests More (obligations O R s at_line known)) (λ i. Store (sym stored.0 i) (sym stored.1 i) cs e) shown_here
 
-    one_shows : (s : Statement) (at_line : ℕ) (known : Known) → Three s at_line known → AllShown s at_line known
-    one_shows (Store b m cs e) at_line known three one nests = one_store b m cs e at_line known nests (three.0.0 tt) (three.0.1 tt) three.1
-    one_shows (Seq ss) at_line known three one nests = absurd one
-    one_shows (For j x kind body) at_line known three one nests = absurd one
-    one_shows (Let j pick forms) at_line known three one nests = absurd one
-    one_shows (First j x z) at_line known three one nests = absurd one
-    one_shows (Guard low high body) at_line known three one nests = absurd one
-    one_shows (Alloc b x seats) at_line known three one nests = absurd one
-    one_shows (Fetch b x area) at_line known three one nests = absurd one
-    one_shows (Publish x) at_line known three one nests = absurd one
+    one_shows : Early → (s : Statement) (at_line : ℕ) (known : Known) → Three s at_line known → AllShown s at_line known
+    one_shows early (Store b m cs e) at_line known three one nests = one_store b m cs e at_line known nests (three.0.0 tt) (three.0.1 tt) three.1 (inl early)
+    one_shows early (Seq ss) at_line known three one nests = absurd one
+    one_shows early (For j x kind body) at_line known three one nests = absurd one
+    one_shows early (Let j pick forms) at_line known three one nests = absurd one
+    one_shows early (First j x z) at_line known three one nests = absurd one
+    one_shows early (Guard low high body) at_line known three one nests = absurd one
+    one_shows early (Alloc b x seats) at_line known three one nests = absurd one
+    one_shows early (Fetch b x area) at_line known three one nests = absurd one
+    one_shows early (Publish x) at_line known three one nests = absurd one
+
+    -- it stores into the function's own buffer
+    own_one : (s : Statement) (at_line : ℕ) (known : Known) → Three s at_line known → StoresIntoOwn s
+    own_one (Store b m cs e) at_line known three = (three.0.0 tt).stores.0
+    own_one (Seq ss) at_line known three = tt
+    own_one (For j x kind body) at_line known three = tt
+    own_one (Let j pick forms) at_line known three = tt
+    own_one (First j x z) at_line known three = tt
+    own_one (Guard low high body) at_line known three = tt
+    own_one (Alloc b x seats) at_line known three = tt
+    own_one (Fetch b x area) at_line known three = tt
+    own_one (Publish x) at_line known three = tt
+
+    -- what a store owes is shown, or a coordinate is not shown to be an i32
+    abbrev AllTold : Statement → ℕ → Known → Type 0
+    AllTold s at_line known = IsStoreLine s → (nests : Nests) → Shows O R nests More (obligations O R s at_line known) ⊎ IsWideStore R s known
+
+    fit_by : (known : Known) (cs : List Coordinate) → list_all (λ c. is_i32 R known.binders c.index) cs ≡ true → AreFit known cs
+    fit_by known [] h j c f at_c is = absurd (cc at_c)
+    fit_by known (x ∷ cs) h zero c f at_c is =
+        let parts = and_parts (is_i32 R known.binders x.index) (list_all (λ c. is_i32 R known.binders c.index) cs) h in
+        let same_coordinate : x ≡ c = cc at_c in
+        ap (is_i32 R known.binders) (sym is ∙ ap (λ (y : Coordinate). y.index) (sym same_coordinate)) ∙ parts.0
+    fit_by known (x ∷ cs) h (suc j) c f at_c is =
+        fit_by known cs (and_parts (is_i32 R known.binders x.index) (list_all (λ c. is_i32 R known.binders c.index) cs) h).1 j c f at_c is
+
+    one_told : (s : Statement) (at_line : ℕ) (known : Known) → Three s at_line known → AllTold s at_line known
+    one_told (Store b m cs e) at_line known three one nests = of (list_all (λ c. is_i32 R known.binders c.index) cs) refl
+      where
+        of : (v : Bool) → list_all (λ c. is_i32 R known.binders c.index) cs ≡ v → Shows O R nests More (obligations O R (Store b m cs e) at_line known) ⊎ IsWideStore R (Store b m cs e) known
+        of true i32 = inl (one_store b m cs e at_line known nests (three.0.0 tt) (three.0.1 tt) three.1 (inr (fit_by known cs i32)))
+        of false wide = inr wide
+    one_told (Seq ss) at_line known three one nests = absurd one
+    one_told (For j x kind body) at_line known three one nests = absurd one
+    one_told (Let j pick forms) at_line known three one nests = absurd one
+    one_told (First j x z) at_line known three one nests = absurd one
+    one_told (Guard low high body) at_line known three one nests = absurd one
+    one_told (Alloc b x seats) at_line known three one nests = absurd one
+    one_told (Fetch b x area) at_line known three one nests = absurd one
+    one_told (Publish x) at_line known three one nests = absurd one
 
     full : HasLines (statement_of q.body)
     full = subst HasLines (sym h.body.with.is) (body_has_lines g fs region _ _ _ 0 k.nests h.body.nests h.body.own h.body.nested (last_claim first h.body.fetches k) k.head
         (Alloc 0 g.subject.name places) (omega arith) tt h.body.fetches)
 
-    pub body_shows : EachLine O R AllShown (statement_of q.body) (body_line plan n) (start (grid_binders q.grid.items))
-    body_shows =
+    all_three : EachLine O R Three (statement_of q.body) (body_line plan n) (start (grid_binders q.grid.items))
+    all_three =
         let s = statement_of q.body in
         let begin = body_line plan n in
         let known = start (grid_binders q.grid.items) in
         let stored = body_stored a sch l well legal small kept all groups told free n q place f at there first line claims needs theirs h hold numbered lined in
         let under = each_named O R (line + 1) (line + (lines s + 1)) s begin known tt full (omega (arith, lined)) (omega (arith, lined)) in
         let two = lines_paired O R Stored Bound (λ t i y. Stored t i y × Bound t i y) (λ t i y x z. (x, z)) s begin known stored bound_all in
-        let three = lines_paired O R (λ t i y. Stored t i y × Bound t i y) Under Three (λ t i y x z. (x, z)) s begin known two under in
-        lines_weaker O R Three AllShown one_shows s begin known three
+        lines_paired O R (λ t i y. Stored t i y × Bound t i y) Under Three (λ t i y x z. (x, z)) s begin known two under
+
+    pub body_shows : Early → EachLine O R AllShown (statement_of q.body) (body_line plan n) (start (grid_binders q.grid.items))
+    body_shows early = lines_weaker O R Three AllShown (one_shows early) (statement_of q.body) (body_line plan n) (start (grid_binders q.grid.items)) all_three
+
+    pub body_told : EachLine O R AllTold (statement_of q.body) (body_line plan n) (start (grid_binders q.grid.items))
+    body_told = lines_weaker O R Three AllTold one_told (statement_of q.body) (body_line plan n) (start (grid_binders q.grid.items)) all_three
+
+    pub own_told : EachLine O R (λ s at_line known. StoresIntoOwn s) (statement_of q.body) (body_line plan n) (start (grid_binders q.grid.items))
+    own_told = lines_weaker O R Three (λ s at_line known. StoresIntoOwn s) own_one (statement_of q.body) (body_line plan n) (start (grid_binders q.grid.items)) all_three

@@ -1,9 +1,6 @@
 -- Of functions whose loops are split once, with any tail, in any order, all that their stores owe is shown, and all that their lines do, where their indices are
 -- simple.
-use Rattle.std.proofs.Common.{◌≡◌, ℕ, ◌+◌, Bool, true, false, ◌&&◌, ◌||◌, List, [], ◌∷◌, refl, sym, subst, inl, inr}
-use Rattle.std.specs.Prelude.{if◌then◌else◌}
-use Rattle.std.specs.List.{AllByRecursion, list_any}
-use Rattle.meaning.specs.Names.{same_name}
+use Rattle.std.proofs.Common.{◌≡◌, true, sym, subst, inl, inr}
 use Rattle.plan.specs.Plan.{Group}
 use Rattle.plan.specs.View.{group_of, plan_of}
 use Rattle.plan.specs.Lines.{body_line}
@@ -14,20 +11,14 @@ use Rattle.soundness.specs.Shown.{Nests, all_shown, start}
 use Rattle.soundness.specs.Binders.View.{grid_binders}
 use Rattle.rules.specs.Bounding.Rules.{rules_of}
 use Rattle.headline.proofs.Lists.{from_map}
-use Rattle.sched.specs.declared.schedule.Split.{Split}
-use Rattle.sched.specs.declared.placing.Loop.{Loop}
-use Rattle.sched.specs.Numbers.{parallel_loops}
-use Rattle.sched.specs.Placing.{is_parallel, is_shifted}
 use Rattle.completeness.specs.Laws.{IsStore}
 use Rattle.completeness.specs.Owed.{IsNameTest, NameTestsHold}
 use Rattle.completeness.specs.Filled.{StoreLinesOweShown, NearBlockedGroupsOweShown}
-use Rattle.completeness.proofs.PlainTurns.{hits, one_if}
-use Rattle.completeness.proofs.PureNests.{loop_name}
 use Rattle.completeness.proofs.Left.{lines_paired, all_names}
 use Rattle.completeness.proofs.StoreNames.{shown as names_shown}
 use Rattle.completeness.proofs.StoreBounds.{Shows}
 use Rattle.completeness.proofs.TailHeld.{tailed_held}
-use Rattle.completeness.proofs.BlockStores.{inside_so, group_at, StoresAreShown, blocked_owed}
+use Rattle.completeness.proofs.BlockStores.{inside_so, group_at, StoresAreShown, blocked_either}
 use Rattle.completeness.proofs.BlockNear.{blocked_held}
 
 pub store_lines_owed : StoreLinesOweShown
@@ -39,8 +30,8 @@ store_lines_owed a s l well legal small regions groups all free told grids few n
     let x = from_map group_of l.plan.groups.items n g at in
     let h = tailed_held a s l well legal small (regions all).0 all groups n x.0 x.1 u stands tailed.once tailed.inners fs defined r laid set simple in
     let at_group = group_at a s l well legal small (regions all).0 all groups told free grids few n x.0 x.1 u stands tailed.once tailed.inners (inside_so u.placed.loops u.placed.cuts tailed.inside) fs defined r laid
-    h.1 h.2 h.0 early in
-    let shown = subst (λ (y : Group). StoresAreShown a s l well legal small (regions all).0 all groups told free grids few n y) (sym x.2) at_group in
+    h.1 h.2 h.0 in
+    let shown = subst (λ (y : Group). StoresAreShown a s l well legal small (regions all).0 all groups told free grids few n y) (sym x.2) (at_group.all_shown early) in
     let names = names_shown a s l well legal small regions groups all told n g at free in
     lines_paired o rules (λ t line k. IsStore t → (tests : Nests) → NameTestsHold rules tests (obligations o rules t line k))
     (λ t line k. IsStore t → (tests : Nests) → Shows o rules tests (λ w. IsNameTest w.wanted → ⊥) (obligations o rules t line k))
@@ -52,7 +43,7 @@ near_blocked_owed a s l well legal small regions groups all free told grids few 
     let x = from_map group_of l.plan.groups.items n g at in
     elim close [
       | inl kept ↦ (let h = blocked_held a s l well legal small (regions all).0 all groups n x.0 x.1 u stands kept.0 fs defined r laid set kept.1 in
-          blocked_owed a s l well legal small regions groups all free told grids few near n g at u stands tailed fs defined r laid h.2 h.3 h.0 h.1)
-      | inr simple ↦ (let h = tailed_held a s l well legal small (regions all).0 all groups n x.0 x.1 u stands tailed.once tailed.inners fs defined r laid set simple.0 in
-          blocked_owed a s l well legal small regions groups all free told grids few near n g at u stands tailed fs defined r laid h.1 h.2 h.0 simple.1)
+          blocked_either a s l well legal small regions groups all free told grids few near n g at u stands tailed fs defined r laid h.1 h.2 h.0)
+      | inr simple ↦ (let h = tailed_held a s l well legal small (regions all).0 all groups n x.0 x.1 u stands tailed.once tailed.inners fs defined r laid set simple in
+          blocked_either a s l well legal small regions groups all free told grids few near n g at u stands tailed fs defined r laid h.1 h.2 h.0)
     ]

@@ -145,8 +145,7 @@ module _ (a : Algorithm) (sch : Schedule) (l : Lowered) (well : IsAlgorithm a) (
       (alone_here : (j : ℕ) (w : CodeClaim) → slice_get items j ≡ Some w → line < w.line → w.line < line + (lines (statement_of p.body) + 1) → In w claims)
       (laid : IsLaidBy g h.extents h.skeleton) (split_alone : AreSplitOnce g.placed.cuts) (keeps : KeepsInner g.placed.loops g.placed.cuts)
       (shifts : AllByRecursion (λ c. is_shifted c ≡ true → hits loop_name c.outer (parallel_loops g.placed.loops) ≡ 0) g.placed.cuts)
-      (roomy_all : AllByRecursion (λ c. is_too_short (loop_numbers g.subject.variables g.placed.cuts h.extents) c ≡ false) g.placed.cuts) (ended : AllByRecursion IsEnded h.extents)
-      (early : AreEndsShort (loop_numbers g.subject.variables g.placed.cuts h.extents) g.placed.cuts) where
+      (roomy_all : AllByRecursion (λ c. is_too_short (loop_numbers g.subject.variables g.placed.cuts h.extents) c ≡ false) g.placed.cuts) (ended : AllByRecursion IsEnded h.extents) where
     abbrev k : SkeletonText
     k = h.skeleton
 
@@ -209,10 +208,14 @@ module _ (a : Algorithm) (sch : Schedule) (l : Lowered) (well : IsAlgorithm a) (
     fit_whole c m = shapes_of.fit_of a sch l well legal small kept all groups n first line g p claims needs at there h lined placed alone_here laid split_alone keeps c.whole
         (shapes_of.wholes a sch l well legal small kept all groups n first line g p claims needs at there h lined placed alone_here laid split_alone keeps c m)
 
-    -- so do those of a split's blocks, where nothing keeps them
-    blocks_kept : (c : Split) (m : In c cuts) → is_tailed rs c ≡ false → blocks_end rs c (shapes_of.fits a sch l well legal small kept all groups n first line g p claims needs at there h
+    -- all blocks end within 32 bits
+    abbrev pub Early : Type 0
+    Early = AreEndsShort rs cuts
+
+    -- so do the numbers of a split's blocks, where nothing keeps them
+    blocks_kept : Early → (c : Split) (m : In c cuts) → is_tailed rs c ≡ false → blocks_end rs c (shapes_of.fits a sch l well legal small kept all groups n first line g p claims needs at there h
         lined placed alone_here laid split_alone keeps c m) (fit_whole c m) ≤ℤ pos 2147483647
-    blocks_kept c m bare =
+    blocks_kept early c m bare =
         let fits = shapes_of.fits a sch l well legal small kept all groups n first line g p claims needs at there h lined placed alone_here laid split_alone keeps c m in
         let fit = fit_whole c m in
         let near = all_in (λ c. is_tailed rs c ≡ false → has_rest c (numbers_named rs c.whole).count ≡ true → (last_number (numbers_named rs c.whole) +ℤ pos c.factor) ≤ℤ pos 2147483647) cuts c early m
@@ -353,13 +356,13 @@ module _ (a : Algorithm) (sch : Schedule) (l : Lowered) (well : IsAlgorithm a) (
         pure_in = (let f = shapes_of.formula_here a sch l well legal small kept all groups n first line g p claims needs at there h lined placed alone_here laid split_alone keeps d q.body
             q.at in pure_here d f.formula f.at)
 
-        right_at : (x : List ℕ) → In x xs → (f : Form) → form_named q.known x ≡ Some f → IsRightForm R known place_named claim_named d x f
+        right_at : (x : List ℕ) → In x xs → (f : Form) → form_named q.known x ≡ Some f → IsRightForm Early R known place_named claim_named d x f
         right_at x m f named =
             right_of cuts (shapes_of.others a sch l well legal small kept all groups n first line g p claims needs at there h lined placed alone_here laid split_alone keeps) (shapes_of.once
             a sch l well legal small kept all groups n first line g p claims needs at there h lined placed alone_here laid split_alone keeps) rs grid base xs ls
             (λ c m. shapes_of.fits a sch l well legal small kept all groups n first line g p claims needs at there h lined placed alone_here laid split_alone keeps c m) (shapes_of.wholes a
             sch l well legal small kept all groups n first line g p claims needs at there h lined placed alone_here laid split_alone keeps) (shapes_of.fit_of a sch l well legal small
-            kept all groups n first line g p claims needs at there h lined placed alone_here laid split_alone keeps) ended_named blocks_kept roomy a plan cert n place_named claim_named
+            kept all groups n first line g p claims needs at there h lined placed alone_here laid split_alone keeps) ended_named Early blocks_kept roomy a plan cert n place_named claim_named
             (λ c m. shapes_of.inners a sch l well legal small kept all groups n first line g p claims needs at there h lined placed alone_here laid split_alone keeps c m) (λ c m x q e.
             (shapes_of.halves a sch l well legal small kept all groups n first line g p claims needs at there h lined placed alone_here laid split_alone keeps c m x q).1 e)
             k.head q.next es ts q.each (λ j i e f at_e at_f le lf name. q.once_each j i e f at_e at_f name)
@@ -385,7 +388,7 @@ module _ (a : Algorithm) (sch : Schedule) (l : Lowered) (well : IsAlgorithm a) (
             a sch l well legal small kept all groups n first line g p claims needs at there h lined placed alone_here laid split_alone keeps) rs grid base xs ls
             (λ c m. shapes_of.fits a sch l well legal small kept all groups n first line g p claims needs at there h lined placed alone_here laid split_alone keeps c m) (shapes_of.wholes a
             sch l well legal small kept all groups n first line g p claims needs at there h lined placed alone_here laid split_alone keeps) (shapes_of.fit_of a sch l well legal small
-            kept all groups n first line g p claims needs at there h lined placed alone_here laid split_alone keeps) ended_named blocks_kept roomy a plan cert n place_named claim_named
+            kept all groups n first line g p claims needs at there h lined placed alone_here laid split_alone keeps) ended_named Early blocks_kept roomy a plan cert n place_named claim_named
             (λ c m. shapes_of.inners a sch l well legal small kept all groups n first line g p claims needs at there h lined placed alone_here laid split_alone keeps c m) (λ c m x q e.
             (shapes_of.halves a sch l well legal small kept all groups n first line g p claims needs at there h lined placed alone_here laid split_alone keeps c m x q).1 e)
             k.head q.next es ts q.each (λ j i e f at_e at_f le lf name. q.once_each j i e f at_e at_f name)
@@ -431,7 +434,7 @@ module _ (a : Algorithm) (sch : Schedule) (l : Lowered) (well : IsAlgorithm a) (
                 range_few : (r : Range) → IsRange r → (unsigned_abs r.low ≤ 2 ^ 20) × (unsigned_abs r.high ≤ 2 ^ 20)
                 range_few r is = (let from = is.from in let rises = is.rises in let to = is.to in (omega (arith, ints, from, rises, to), omega (arith, ints, from, rises, to)))
 
-        pub ready_here : IsReadyNest R fs place_named claim_named xs rn d w known
+        pub ready_here : IsReadyNest Early R fs place_named claim_named xs rn d w known
         ready_here = record {
           names = q.known;
           body = q.body;

@@ -182,7 +182,7 @@ module _ (rs : List Numbers) (c : Split) (fits : CutFits rs c) (fit : IsSmall (n
 module _ (cuts : List Split) (others : AreOthers cuts) (once : AreOnce cuts) (rs : List Numbers) (grid : List Known) (base : ℕ) (xs : List (List ℕ)) (ls : List Loop)
     (fits : (c : Split) → In c cuts → CutFits rs c) (wholes : (c : Split) → In c cuts → In c.whole xs)
     (fit_of : (x : List ℕ) → In x xs → IsSmall (numbers_named rs x) × (0 < (numbers_named rs x).count)) (ended : (x : List ℕ) → In x xs → last_number (numbers_named rs x) ≤ℤ pos 2147483647)
-    (blocks_kept : (c : Split) (m : In c cuts) → is_tailed rs c ≡ false → blocks_end rs c (fits c m) (fit_of c.whole (wholes c m)) ≤ℤ pos 2147483647)
+    (Early : Type 0) (blocks_kept : Early → (c : Split) (m : In c cuts) → is_tailed rs c ≡ false → blocks_end rs c (fits c m) (fit_of c.whole (wholes c m)) ≤ℤ pos 2147483647)
     (roomy : (c : Split) → In c cuts → is_shifted c ≡ true → c.factor ≤ (numbers_named rs c.whole).count) (algorithm : Algorithm) (plan_here : Plan) (cert : Certificate) (number_here : ℕ)
     (place_named : List ℕ → Places) (claim_named : List ℕ → Span1)
     (inners : (c : Split) → In c cuts → form_named grid c.inner ≡ None) (halves : (c : Split) → In c cuts → (x : List ℕ) → In x xs → x ≡ c.inner → ⊥) where
@@ -238,7 +238,7 @@ module _ (cuts : List Split) (others : AreOthers cuts) (once : AreOnce cuts) (rs
     scope = scope_of known.binders
 
     abbrev IsRight : List ℕ → Form → Type 0
-    IsRight x f = IsRightForm R known place_named claim_named d x f
+    IsRight x f = IsRightForm Early R known place_named claim_named d x f
 
     abbrev LeafHere : List ℕ → Form → Type 0
     LeafHere = Leaf cuts others once rs grid base head n es
@@ -318,7 +318,7 @@ module _ (cuts : List Split) (others : AreOthers cuts) (once : AreOnce cuts) (rs
         let zero_more : low x +ℤ (pos 1 -ℤ pos 1) ≡ low x = omega (arith, ints) in
         let up : raised (counted_from (low x) r.0) (pos 1 -ℤ pos 1) ≡ counted_from (low x) r.0 = (λ j. counted_from (zero_more j) r.0) in
         subst (IsRight x) (sym r.1) (record {
-          inside = counted_inside scope r.0 (numbers (pos 0) (pos (count x) -ℤ pos 1)) (low x) (pos 0) (pos (count x) -ℤ pos 1) inside_r r.2 refl refl begins last_is low_near zero_near near;
+          inside = λ early. counted_inside scope r.0 (numbers (pos 0) (pos (count x) -ℤ pos 1)) (low x) (pos 0) (pos (count x) -ℤ pos 1) inside_r r.2 refl refl begins last_is low_near zero_near near;
           seated = ap (is_seated R known.binders (exactly (counted_from (low x) r.0))) dims_here.1
               ∙ seat_by (counted_from (low x) r.0) (counted_from (low x) r.0) (counted_from (low x) r.0) 1 up self self;
           within = λ update. ap (is_within R known.binders (exactly (counted_from (low x) r.0))) dims_here.0 ∙ (λ j. ((self j || false) && true) && ((self j || false) && true));
@@ -349,7 +349,7 @@ module _ (cuts : List Split) (others : AreOthers cuts) (once : AreOnce cuts) (rs
         let over = loop_above scope (n + j) (low x) (last x) (omega (arith, low_near)) (omega (arith, last_near)) numbers_there less in
         let under = loop_below scope (n + j) (low x) (last x) (omega (arith, low_near)) (omega (arith, last_near)) numbers_there less in
         record {
-          inside = symbol_inside scope (n + j) (span (low x) (last x) []) (low x) (last x) less numbers_there refl refl from to ends (omega (arith, last_near));
+          inside = λ early. symbol_inside scope (n + j) (span (low x) (last x) []) (low x) (last x) less numbers_there refl refl from to ends (omega (arith, last_near));
           seated = ap (is_seated R known.binders (exactly (alone (n + j)))) dims_here.1
               ∙ seat_by (alone (n + j)) (number (low x)) (number (last x)) (count x) (ap number (sym last_is)) over under;
           within = λ update. ap (is_within R known.binders (exactly (alone (n + j)))) dims_here.0 ∙ within_one (alone (n + j)) (number (low x)) (number (last x)) over under;
@@ -545,14 +545,14 @@ module _ (cuts : List Split) (others : AreOthers cuts) (once : AreOnce cuts) (rs
                     by : (z : ℤ) (a b w m : ℕ) → a ≡ b → w ≡ suc m → (z +ℤ (pos a +ℤ pos m)) ≡ z +ℤ (pos b +ℤ (pos w -ℤ pos 1))
                     by z a b w m p d = omega (arith, ints, p, d)
 
-            ends : (z +ℤ (pos (q * suc k) +ℤ pos k)) ≤ℤ pos 2147483647
-            ends = subst (λ (y : ℤ). y ≤ℤ pos 2147483647) (sym whole_end_is) (blocks_kept c m bare)
+            ends : Early → (z +ℤ (pos (q * suc k) +ℤ pos k)) ≤ℤ pos 2147483647
+            ends early = subst (λ (y : ℤ). y ≤ℤ pos 2147483647) (sym whole_end_is) (blocks_kept early c m bare)
 
-            bare_inside : is_index_span scope (exactly (at_pair s)) ≡ true
-            bare_inside =
+            bare_inside : Early → is_index_span scope (exactly (at_pair s)) ≡ true
+            bare_inside early =
                 ap (λ (f : Form). is_index_span scope (exactly f)) (pair_suc s)
                 ∙ pair_inside scope s (n + i) differ inside_s there_here.1 blocks_span here there_s there_here.0 q k k_few q_few all_few_here refl refl lower_here (upper_bare none) z from_here to_here
-                ends
+                (ends early)
 
             bare_bounds : (at_most scope (number z) (at_pair s) ≡ true) × (at_most scope (at_pair s) (number whole_end) ≡ true)
             bare_bounds =
@@ -561,7 +561,7 @@ module _ (cuts : List Split) (others : AreOthers cuts) (once : AreOnce cuts) (rs
                 let small_size = k_few in
                 let near_end : unsigned_abs whole_end ≤ 2 ^ 37 = subst (λ (y : ℤ). unsigned_abs y ≤ 2 ^ 37) is (near_at z (q * suc k) k z_near few_all small_size) in
                 let both = pair_bounds scope s (n + i) differ inside_s there_here.1 blocks_span here there_s there_here.0 q k k_few q_few all_few_here refl refl lower_here (upper_bare none) z
-                from_here to_here ends whole_end near_end (itself (z +ℤ (pos (q * suc k) +ℤ pos k)) whole_end is) in
+                from_here to_here whole_end near_end (itself (z +ℤ (pos (q * suc k) +ℤ pos k)) whole_end is) in
                 (ap (at_most scope (number z)) (pair_suc s) ∙ both.0, ap (λ (f : Form). at_most scope f (number whole_end)) (pair_suc s) ∙ both.1)
               where
                 near_at : (z : ℤ) (p m : ℕ) → unsigned_abs z ≤ 2 ^ 36 → p ≤ 2 ^ 32 → suc m ≤ 1024 → unsigned_abs (z +ℤ (pos p +ℤ pos m)) ≤ 2 ^ 37
@@ -653,7 +653,7 @@ module _ (cuts : List Split) (others : AreOthers cuts) (once : AreOnce cuts) (rs
                     let below = guard_block in
                     let claim_so = dims_here.0 ∙ ap (λ (b : Bool). record { lower = first ∷ []; upper = block_last ∷ (if b then number end ∷ [] else []) }) guarded in
                     record {
-                      inside = guard_inside;
+                      inside = λ early. guard_inside;
                       seated = ap (is_seated R known.binders (exactly (at_pair s))) dims_here.1 ∙ seat_by (at_pair s) first (raised first (pos k)) c.factor up over_first below;
                       within = λ update. ap (is_within R known.binders (exactly (at_pair s))) claim_so
                           ∙ within_two (at_pair s) first block_last (number end) over_first (ap (at_most scope (at_pair s)) (sym swapped) ∙ below) guard_under;
@@ -665,7 +665,7 @@ module _ (cuts : List Split) (others : AreOthers cuts) (once : AreOnce cuts) (rs
                     let claim_so = dims_here.0 ∙ ap (λ (b : Bool). numbers z (if b then end else whole_end)) guarded in
                     let place_so = dims_here.1 ∙ ap (λ (b : Bool). From (number z) (if b then count c.whole else q * c.factor + c.factor)) guarded in
                     record {
-                      inside = guard_inside;
+                      inside = λ early. guard_inside;
                       seated = ap (is_seated R known.binders (exactly (at_pair s))) place_so ∙ seat_by (at_pair s) (number z) (number end) (count c.whole) (ap number last_so) guard_over guard_under;
                       within = λ update. ap (is_within R known.binders (exactly (at_pair s))) claim_so ∙ within_one (at_pair s) (number z) (number end) guard_over guard_under;
                       kept = within;
@@ -753,7 +753,8 @@ module _ (cuts : List Split) (others : AreOthers cuts) (once : AreOnce cuts) (rs
               let claim_so = dims_here.0 ∙ ap (λ (b : Bool). numbers z (if b then end else whole_end)) guarded in
               let place_so = dims_here.1 ∙ ap (λ (b : Bool). From (number z) (if b then count c.whole else q * c.factor + c.factor)) guarded in
               subst (IsRight c.whole) (sym p.is) (record {
-                inside = kept_let_inside scope at_let inside_let (n + o) (n + i) (symbols_differ (n + o) told_pair) (omega arith) inner_before k q k_few q_few all_few_here blocks_span here outer_there
+                inside = λ early. kept_let_inside scope at_let inside_let (n + o) (n + i) (symbols_differ (n + o) told_pair) (omega arith) inner_before k q k_few q_few all_few_here
+                    blocks_span here outer_there
                     there_here.0 refl refl lower_here (upper_bare none_pair) z end z_near end_near let_there from_here (reaches rs c (fits c m) (whole_fit c m)) end_here;
                 seated = ap (is_seated R known.binders (exactly (alone at_let))) place_so
                     ∙ seat_by (alone at_let) (number z) (number end) (count c.whole) (ap number last_so) let_over_here let_under_here;
@@ -864,7 +865,7 @@ module _ (cuts : List Split) (others : AreOthers cuts) (once : AreOnce cuts) (rs
           right_shifted : ((outer : Form) → form_named grid c.outer ≡ Some outer → place_named c.whole ≡ From (alone p) c.factor) → is_within_limits at_shift ≡ true → IsRight c.whole at_shift
           right_shifted placed limited =
               let none = pure c m shifts in record {
-                inside = shift_inside;
+                inside = λ early. shift_inside;
                 seated = seated_shift placed;
                 within = λ update. absurd (omega (arith, update, none));
                 kept = limited;

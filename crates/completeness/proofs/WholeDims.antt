@@ -29,7 +29,6 @@ use Rattle.sched.specs.declared.numbers.Extent.{Extent}
 use Rattle.sched.specs.declared.numbers.Numbers.{Numbers}
 use Rattle.sched.specs.Placing.{is_parallel}
 use Rattle.sched.specs.Numbers.{numbers_named, last_number, loop_numbers, parallel_loops}
-use Rattle.sched.specs.Standing.{has_rest}
 use Rattle.sched.proofs.Rooting.{HaveDimensions, IsHeld}
 use Rattle.sched.proofs.Arranging.{LoopFits, SplitFits}
 use Rattle.lower.specs.declared.lowering.Lowered.{Lowered}
@@ -44,14 +43,13 @@ use Rattle.lower.proofs.Owners as owners
 use Rattle.completeness.specs.Laws.{AreSplitOnce}
 use Rattle.completeness.specs.Parted.{KeepsInner}
 use Rattle.completeness.specs.Blocked.{is_tailed}
-use Rattle.completeness.specs.Filled.{AreEndsShort}
 use Rattle.completeness.specs.Placed.{GoesOn}
 use Rattle.completeness.proofs.RegionBounds.{IsEnded}
 use Rattle.completeness.proofs.Served.{roots}
 use Rattle.completeness.proofs.PureNests.{all_in, all_get, loop_name}
 use Rattle.completeness.proofs.PlainTurns.{one_if, hits}
 use Rattle.completeness.proofs.StoreLists.{numbers_at}
-use Rattle.completeness.proofs.BlockDims.{top, top_low, top_high, top_full}
+use Rattle.completeness.proofs.BlockDims.{top, top_low, top_high}
 use Rattle.completeness.proofs.TailDims.{end_of_all, all_of}
 use Rattle.completeness.proofs.StoreShapes as nests_of
 
@@ -121,7 +119,7 @@ module _ (a : Algorithm) (sch : Schedule) (l : Lowered) (well : IsAlgorithm a) (
     claim_named x = (dimension_of (lay_over g h.extents h.skeleton) cuts x).claim
 
     module _ (j : ℕ) (x : List ℕ) (at_x : slice_get xs j ≡ Some x) (apart : (o : Loop) → In o ls → is_parallel o ≡ true → o.dimension ≡ j → ⊥)
-        (ended : AllByRecursion IsEnded h.extents) (early : AreEndsShort rs cuts) where
+        (ended : AllByRecursion IsEnded h.extents) where
       abbrev dim : List ℕ → ℕ
       dim = (owners.arranged g h.extents h.skeleton laid).dim
 
@@ -137,7 +135,7 @@ module _ (a : Algorithm) (sch : Schedule) (l : Lowered) (well : IsAlgorithm a) (
       -- the dimension has these numbers, and perhaps more behind them
       abbrev IsReached : List ℕ → Extent → Type 0
       IsReached y e =
-          (e.low ≡ (numbers_named rs y).low) × ((numbers_named rs y).count ≤ e.count) × ((e.low +ℤ pos e.count -ℤ pos 1) ≤ℤ pos 2147483647) × (place_named y ≡ From (number e.low) e.count)
+          (e.low ≡ (numbers_named rs y).low) × ((numbers_named rs y).count ≤ e.count) × ((e.low +ℤ pos e.count -ℤ pos 1) ≤ℤ pos 4294967296) × (place_named y ≡ From (number e.low) e.count)
           × (claim_named y ≡ whole e)
 
       last_here : last_number (numbers_named rs x) ≤ℤ pos 2147483647
@@ -154,20 +152,17 @@ module _ (a : Algorithm) (sch : Schedule) (l : Lowered) (well : IsAlgorithm a) (
           let fit = nests_of.fit_of a sch l well legal small kept all groups n first line g p claims needs at there h lined placed alone_here laid split_alone keeps c.whole
           (nests_of.wholes a sch l well legal small kept all groups n first line g p claims needs at there h lined placed alone_here laid split_alone keeps c m) in
           let last_so : last_number (numbers_named rs c.whole) ≤ℤ pos 2147483647 = subst (λ (y : List ℕ). last_number (numbers_named rs y) ≤ℤ pos 2147483647) (sym is) last_here in
-          let near = all_in (λ c. is_tailed rs c ≡ false → has_rest c (numbers_named rs c.whole).count ≡ true → (last_number (numbers_named rs c.whole) +ℤ pos c.factor) ≤ℤ pos 2147483647)
-          cuts c early m in
-          let w = whole_split c fits fit.0 fit.1 last_so near in
+          let w = whole_split c fits fit.0 fit.1 last_so in
           let e : Extent = record { low = (numbers_named rs c.whole).low; count = all_of rs c fits fit.0 fit.1 } in
           (e, (refl, w.0, w.2, d.1, d.0 ∙ ap (numbers (numbers_named rs c.whole).low) (sym w.1)))
         where
           -- all blocks together have the loop's numbers
           whole_split : (c : Split) (fits : CutFits rs c) (fit : IsSmall (numbers_named rs c.whole)) (some : 0 < (numbers_named rs c.whole).count) →
               last_number (numbers_named rs c.whole) ≤ℤ pos 2147483647 →
-              (is_tailed rs c ≡ false → has_rest c (numbers_named rs c.whole).count ≡ true → (last_number (numbers_named rs c.whole) +ℤ pos c.factor) ≤ℤ pos 2147483647) →
               ((numbers_named rs c.whole).count ≤ all_of rs c fits fit some)
               × ((numbers_named rs c.whole).low +ℤ pos (all_of rs c fits fit some) -ℤ pos 1 ≡ end_of_all rs c fits fit some)
-              × (((numbers_named rs c.whole).low +ℤ pos (all_of rs c fits fit some) -ℤ pos 1) ≤ℤ pos 2147483647)
-          whole_split c fits fit some last_so near = of (is_tailed rs c) refl
+              × (((numbers_named rs c.whole).low +ℤ pos (all_of rs c fits fit some) -ℤ pos 1) ≤ℤ pos 4294967296)
+          whole_split c fits fit some last_so = of (is_tailed rs c) refl
             where
               own : Numbers
               own = numbers_named rs c.whole
@@ -175,32 +170,34 @@ module _ (a : Algorithm) (sch : Schedule) (l : Lowered) (well : IsAlgorithm a) (
               t : ℕ
               t = top own.count c.factor
 
+              farther : (z : ℤ) → z ≤ℤ pos 2147483647 → z ≤ℤ pos 4294967296
+              farther z le = omega (arith, ints, le)
+
               regrouped : (z : ℤ) (p w : ℕ) → z +ℤ pos (p + w) -ℤ pos 1 ≡ z +ℤ (pos p +ℤ (pos w -ℤ pos 1))
               regrouped z p w = omega (arith, ints)
 
-              short : (z : ℤ) (n p w : ℕ) → 0 < n → p ≤ n - 1 → (z +ℤ pos n -ℤ pos 1 +ℤ pos w) ≤ℤ pos 2147483647 → (z +ℤ pos (p + w) -ℤ pos 1) ≤ℤ pos 2147483647
-              short z n p w more le few = omega (arith, ints, more, le, few)
+              short : (z : ℤ) (n p w : ℕ) → 0 < n → p ≤ n - 1 → w ≤ 1024 → (z +ℤ pos n -ℤ pos 1) ≤ℤ pos 2147483647 → (z +ℤ pos (p + w) -ℤ pos 1) ≤ℤ pos 4294967296
+              short z n p w more le wide few = omega (arith, ints, more, le, wide, few)
 
-              full : (z : ℤ) (n p w : ℕ) → p + w ≤ n → (z +ℤ pos n -ℤ pos 1) ≤ℤ pos 2147483647 → (z +ℤ pos (p + w) -ℤ pos 1) ≤ℤ pos 2147483647
-              full z n p w le few = omega (arith, ints, le, few)
-
-              bare_last : (b : Bool) → has_rest c own.count ≡ b → is_tailed rs c ≡ false → (own.low +ℤ pos (t * c.factor + c.factor) -ℤ pos 1) ≤ℤ pos 2147483647
-              bare_last true k e = short own.low own.count (t * c.factor) c.factor some (top_low own.count c.factor some fits.some) (near e k)
-              bare_last false k e = full own.low own.count (t * c.factor) c.factor (top_full own.count c.factor some fits.some (no_rest c.factor own.count k)) last_so
+              bare_last : (own.low +ℤ pos (t * c.factor + c.factor) -ℤ pos 1) ≤ℤ pos 4294967296
+              bare_last = short own.low own.count (t * c.factor) c.factor some (top_low own.count c.factor some fits.some) fits.few last_so
 
               of : (v : Bool) → is_tailed rs c ≡ v →
                   (own.count ≤ (if v then own.count else t * c.factor + c.factor))
                   × (own.low +ℤ pos (if v then own.count else t * c.factor + c.factor) -ℤ pos 1 ≡ (if v then last_number own else (own.low +ℤ (pos (t * c.factor) +ℤ (pos c.factor -ℤ pos 1)))))
-                  × ((own.low +ℤ pos (if v then own.count else t * c.factor + c.factor) -ℤ pos 1) ≤ℤ pos 2147483647)
-              of true e = (omega arith, refl, last_so)
-              of false e = (top_high own.count c.factor some fits.some, regrouped own.low (t * c.factor) c.factor, bare_last (has_rest c own.count) refl e)
+                  × ((own.low +ℤ pos (if v then own.count else t * c.factor + c.factor) -ℤ pos 1) ≤ℤ pos 4294967296)
+              of true e = (omega arith, refl, farther (last_number own) last_so)
+              of false e = (top_high own.count c.factor some fits.some, regrouped own.low (t * c.factor) c.factor, bare_last)
+
+      farther : (z : ℤ) → z ≤ℤ pos 2147483647 → z ≤ℤ pos 4294967296
+      farther z le = omega (arith, ints, le)
 
       reached : (e : Extent) × IsReached x e
       reached = elim (all_in (IsHeld ls cuts) xs x (owners.arranged g h.extents h.skeleton laid).variables (at_in xs j x at_x)) [
         | inl o ↦
             (let d = nests_of.dim_loop a sch l well legal small kept all groups n first line g p claims needs at there h lined placed alone_here laid split_alone keeps x (at_in xs j x at_x)
             (none_of x here) (o.0, o.1, o.2) in
-            (record { low = (numbers_named rs x).low; count = (numbers_named rs x).count }, (refl, omega arith, last_here, d.1, d.0)))
+            (record { low = (numbers_named rs x).low; count = (numbers_named rs x).count }, (refl, omega arith, farther (last_number (numbers_named rs x)) last_here, d.1, d.0)))
         | inr c ↦ subst (λ (y : List ℕ). (e : Extent) × IsReached y e) c.2 (cut_dims c.0 c.1 c.2)
       ]
 

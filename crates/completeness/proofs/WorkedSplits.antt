@@ -15,7 +15,7 @@ use Rattle.lower.specs.Bodies.{step_lines}
 use Rattle.completeness.specs.Blocked.{makes_line, IsKept, IsTailed}
 use Rattle.completeness.specs.Stores.{IsNearRegion}
 use Rattle.completeness.specs.Simple.{SimpleIndices}
-use Rattle.completeness.specs.Filled.{AreEndsShort, IsNearOrSimple}
+use Rattle.completeness.specs.Filled.{IsNearOrSimple}
 use Rattle.completeness.specs.Placed.{IsSettled, ArePlaced}
 use Rattle.completeness.specs.Worked.{reader, caller, two_functions, both_split, SplitsFill}
 use Rattle.completeness.proofs.Owned.{some_same}
@@ -172,20 +172,11 @@ second_simple : SimpleIndices (formulas_in second.formulas)
 unfolding formulas_in
 second_simple = (refl, tt)
 
-abbrev EndsIn : StoredText → List Extent → Type 0
-EndsIn u es = AreEndsShort (loop_numbers u.subject.variables u.placed.cuts es) u.placed.cuts
-
-second_ends : EndsIn second points
-second_ends = ((λ bare rest. absurd (cc bare)), ((λ bare rest. absurd (cc bare)), tt))
-
 near : (n : ℕ) (u : StoredText) → slice_get gs n ≡ Some u → (fs : List FormulaText) → u.formulas ≡ Some fs → (r : LaidText) →
     slice_get (laid_functions two_functions gs) n ≡ Some (Some r) → IsNearOrSimple two_functions both_split n u fs r.region
 near zero u at fs e r laid = first_near u fs r at laid
 near (suc zero) u at fs e r laid =
-    inr (
-      subst SimpleIndices (as_found second u fs (second_is u at) e) second_simple,
-      subst (λ (v : StoredText). EndsIn v r.region) (second_is u at) (subst (EndsIn second) (sym region_second ∙ ap region_in laid) second_ends),
-    )
+    inr (subst SimpleIndices (as_found second u fs (second_is u at) e) second_simple)
 near (suc (suc n)) u at fs e r laid = absurd (no_more u at)
   where
     no_more : (u : StoredText) → None ≡ Some u → ⊥

@@ -1,9 +1,19 @@
 -- What the lines of a group owe the checker, of a function whose loops are split once.
-use Rattle.std.specs.Prelude.{◌≡◌, ◌⊎◌, ℕ, true, false, List, Some, pos, ◌+ℤ◌, ◌≤ℤ◌, slice_get}
-use Rattle.std.specs.List.{AllByRecursion}
-use Rattle.plan.specs.Plan.{Group}
+use Rattle.std.specs.Prelude.{◌≡◌, ◌⊎◌, ℕ, ◌||◌, true, false, List, Some, pos, ◌+ℤ◌, ◌≤ℤ◌, slice_get}
+use Rattle.std.specs.List.{AllByRecursion, list_all}
+use Rattle.plan.specs.Plan.{Group, Plan}
+use Rattle.plan.specs.Lines.{body_line}
 use Rattle.plan.specs.View.{plan_of}
-use Rattle.plan.specs.Certificate.Certificate.{certificate_of}
+use Rattle.plan.specs.Certificate.Certificate.{Certificate, certificate_of}
+use Rattle.soundness.specs.Given.{outline_of}
+use Rattle.soundness.specs.Obligations.{is_member, obligations}
+use Rattle.soundness.specs.Shown.{is_shown, start}
+use Rattle.soundness.specs.Nests.Laws.{domains_of}
+use Rattle.soundness.specs.Binders.View.{grid_binders}
+use Rattle.rules.specs.Bounding.Rules.{rules_of}
+use Rattle.rules.specs.Widths.Widths.{wide_lines}
+use Rattle.tails.specs.Windows.Nests.{slid_nests}
+use Rattle.audit.specs.Verdict.Left.{stores_to, leaves}
 use Rattle.meaning.specs.Algorithm.{Algorithm}
 use Rattle.meaning.specs.Conditions.{IsAlgorithm}
 use Rattle.sched.specs.declared.schedule.Split.{Split}
@@ -34,9 +44,18 @@ AreEndsShort rs cs =
     (λ c. is_tailed rs c ≡ false → has_rest c (numbers_named rs c.whole).count ≡ true → (last_number (numbers_named rs c.whole) +ℤ pos c.factor) ≤ℤ pos 2147483647) cs
 
 -- the region that is needed of the function begins near 0, and its blocks need no line of their own; or, wherever it begins, each index of its definitions is
--- simple, and its blocks reach numbers of 32 bits
+-- simple
 abbrev pub IsNearOrSimple : Algorithm → Schedule → ℕ → StoredText → List FormulaText → List Extent → Type 0
-IsNearOrSimple a s n u fs es = (IsKept a s n u × IsNearRegion es) ⊎ (SimpleIndices fs × AreEndsShort (loop_numbers u.subject.variables u.placed.cuts es) u.placed.cuts)
+IsNearOrSimple a s n u fs es = (IsKept a s n u × IsNearRegion es) ⊎ SimpleIndices fs
+
+-- of a group with a number that is not shown to be small: what its lines owe is shown but at such a line, of which that is told (K14); and none of its stores
+-- leaves its buffer, of which else what it owes is told before
+pub record IsShownElsewhere (a : Algorithm) (p : Plan) (c : Certificate) (n : ℕ) (g : Group) : Type 0 where
+  pub shown :
+      list_all (λ o. is_shown (rules_of a p c n) (slid_nests (outline_of p c n g) (rules_of a p c n) (domains_of a)) o
+      || is_member o.line (wide_lines (rules_of a p c n) (grid_binders g.grid) (body_line p n) g.body))
+      (obligations (outline_of p c n g) (rules_of a p c n) g.body (body_line p n) (start (grid_binders g.grid))) ≡ true
+  pub stays : (b k : ℕ) → stores_to b g.body ≡ true → leaves b k g.body ≡ false
 
 -- of each function whose loops are split once, whatever the tails, in whatever order, whichever loops are parallel but the inner ones, where what it fetches
 -- holds its calls, and each left index that is no variable lies in its dimension, as the indices of its own calls there do: all that the lines of its group owe is
@@ -52,7 +71,8 @@ BlockedGroupsOweShown =
     u.placed.cuts r.region) u.placed.cuts
     → GroupShown TakeSplit a (plan_of l.plan) (certificate_of l.certificate) n g
 
--- so it is, whatever such a function fetches, where its region begins near 0 or its indices are simple
+-- so it is, whatever such a function fetches, where its region begins near 0 or its indices are simple; but where blocks run past the numbers of 32 bits what a
+-- store owes may not be shown: of its line a limit is told first
 abbrev pub NearBlockedGroupsOweShown : Type 0
 NearBlockedGroupsOweShown =
     (a : Algorithm) (s : Schedule) (l : Lowered) → IsAlgorithm a → IsLegal a s → AreSmall a s → AreRegionsKept a s → AreGroupsMade a s l
@@ -60,7 +80,8 @@ NearBlockedGroupsOweShown =
     → AreClaimsNear (certificate_of l.certificate)
     → (n : ℕ) (g : Group) → slice_get (plan_of l.plan).groups n ≡ Some g → (u : StoredText) → slice_get (stored_functions a s) n ≡ Some u → IsTailed u
     → (fs : List FormulaText) → u.formulas ≡ Some fs → (r : LaidText) → slice_get (laid_functions a (stored_functions a s)) n ≡ Some (Some r) → ArePlaced a u fs r
-    → IsNearOrSimple a s n u fs r.region → GroupShown TakeSplit a (plan_of l.plan) (certificate_of l.certificate) n g
+    → IsNearOrSimple a s n u fs r.region
+    → GroupShown TakeSplit a (plan_of l.plan) (certificate_of l.certificate) n g ⊎ IsShownElsewhere a (plan_of l.plan) (certificate_of l.certificate) n g
 
 -- of each function whose loops are split once, whatever the tails and in whatever order the loops stand, whose indices are simple and whose blocks reach numbers
 -- of 32 bits where nothing keeps them within their loop: all that the stores of its group owe is shown

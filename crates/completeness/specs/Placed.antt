@@ -23,11 +23,11 @@ IsSettled a g fs l =
 abbrev pub ArePlaced : Algorithm → StoredText → List FormulaText → LaidText → Type 0
 ArePlaced a g fs l = (d j : ℕ) (f : FormulaText) (e : Term) → slice_get fs d ≡ Some f → slice_get f.at j ≡ Some (Some e) → IsSettled a g fs l
 
--- the numbers of an extent, and perhaps more behind them, of 32 bits
+-- the numbers of an extent, and perhaps more behind them, which are not far past those of 32 bits
 pub record GoesOn (x y : Extent) : Type 0 where
   pub low : y.low ≡ x.low
   pub count : x.count ≤ y.count
-  pub last : (y.low +ℤ pos y.count -ℤ pos 1) ≤ℤ pos 2147483647
+  pub last : (y.low +ℤ pos y.count -ℤ pos 1) ≤ℤ pos 4294967296
 
 -- each left index that is no variable is shown to lie in the numbers of its dimension, and to be a number of 32 bits, as the checker tests it
 abbrev pub AreLeftsHeld : Algorithm → StoredText → List FormulaText → List Extent → SkeletonText → Type 0

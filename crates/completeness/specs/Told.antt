@@ -1,5 +1,5 @@
 -- What the checker tells of a plan whose schedule splits loops once at most is a limit.
-use Rattle.std.specs.Prelude.{◌≡◌, ℕ, true, List, Some, slice_get}
+use Rattle.std.specs.Prelude.{◌≡◌, ◌⊎◌, ℕ, true, List, Some, slice_get}
 use Rattle.std.specs.List.{AllByRecursion}
 use Rattle.meaning.specs.Algorithm.{Algorithm}
 use Rattle.meaning.specs.Conditions.{IsAlgorithm}
@@ -28,12 +28,12 @@ use Rattle.lower.specs.Refused.{AreSmall, AreRegionsKept}
 use Rattle.lower.specs.Groups.{AreGroupsMade}
 use Rattle.completeness.specs.Placed.{ArePlaced}
 use Rattle.completeness.specs.Blocked.{IsTailed}
-use Rattle.completeness.specs.Filled.{IsNearOrSimple}
+use Rattle.completeness.specs.Laws.{AreLinesTold}
+use Rattle.completeness.specs.Filled.{IsNearOrSimple, IsShownElsewhere}
 
 -- each stored function is a root function that is computed at no loop; its loops are split once at most, whatever the tails and in whatever order they stand, but
 -- no outer loop of a split with `shift` is parallel; where a left index of its updates is no variable, asking for its region came to an end; and each index of its
--- definitions is simple and its blocks reach numbers of 32 bits, or the region that is needed of it begins near 0, and no split is with `shift`, nor with a
--- `guard` that keeps numbers by a line of its own
+-- definitions is simple, or the region that is needed of it begins near 0, and no split is with `shift`, nor with a `guard` that keeps numbers by a line of its own
 pub record SplitsPlainly (a : Algorithm) (s : Schedule) : Type 0 where
   pub whole : are_whole (stored_functions a s) ≡ true
   pub tailed : (n : ℕ) (u : StoredText) → slice_get (stored_functions a s) n ≡ Some u → IsTailed u
@@ -47,13 +47,15 @@ abbrev pub HasOutputPoints : Algorithm → Plan → Certificate → ℕ → Grou
 HasOutputPoints a p c n g = g.function ≡ a.output → HasEachPoint a p c n
 
 -- all that the checker asks of the plan is so but for limits: the head is the algorithm's (no K1); what is told first of the lines of groups by names, limits
--- and stored expressions is a limit (K14); all that they owe is shown, by the checker's rules and its tests of nests (no K2, nor K4 to K8); what is told of the
+-- and stored expressions is a limit (K14); all that they owe is shown, by the checker's rules and its tests of nests, or is at a line of which a limit is told
+-- (no K2, nor K4 to K8), and each line can be told; what is told of the
 -- certificate's lines by themselves is a limit, too (no K2, K3, K8, K10), and so is what is told of the pieces' shares (no K9, K10, K11); and the output's
 -- group has each point of the output (no K10)
 pub record TellsOnlyLimits (a : Algorithm) (p : Plan) (c : Certificate) : Type 0 where
   pub head : (line : ℕ) → ¬ FailsHead a p line
   pub groups : (f : TextFlaw) → first_of (flaws_of_groups a p c) ≡ Some f → f.code ≡ 14
-  pub shown : (n : ℕ) (g : Group) → slice_get p.groups n ≡ Some g → IsShown (rules_of a p c n) a p c n g
+  pub shown : (n : ℕ) (g : Group) → slice_get p.groups n ≡ Some g → IsShown (rules_of a p c n) a p c n g ⊎ IsShownElsewhere a p c n g
+  pub lines : AreLinesTold p
   pub certificate : AllByRecursion (λ f. f.code ≡ 14) (flaws_of_certificate a p c)
   pub shares : (f : Flaw) → ErrorMeans p c (SharesFlaw f) → f.code ≡ K14
   pub output : (n : ℕ) (g : Group) → slice_get p.groups n ≡ Some g → HasOutputPoints a p c n g

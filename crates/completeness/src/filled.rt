@@ -2,25 +2,26 @@
 
 ghost use Rattle.completeness.specs.Filled.{BlockedGroupsOweShown, NearBlockedGroupsOweShown, StoreLinesOweShown};
 
-/// Of a schedule under which each stored function is a root function that is computed at no loop, the group of each function whose loops are split once, none
-/// with `shift`: with `roundup`, or with `guard` where over its region the factor divides the loop's numbers, the inner loop stands inside of the outer one, or a
-/// piece tells the block, whichever loops are parallel but the inner ones; where what is fetched holds the calls, blocks that run past the end reach numbers of
-/// 32 bits alone, and each left index that is no variable, and each index of a call of the function itself at its place, is shown to lie in its dimension, also
-/// where this has more numbers behind it: all that its lines owe is shown, where the tests of nests say yes to plain nests and to split ones, as the checker's
-/// do. Neither K2, K4, K5, K6 nor K7 is told of them. Each other coordinate is a number of 32 bits: the first number of a block, which the grid or an outer loop
-/// tells, and an inner loop's symbol. Reduction variables are loops over their ranges; an update's calls of its own function are of the point where it stores, at
-/// each place where that sets the variable. A dimension that a left index sets has no parallel loop, so each piece has it whole, with what its blocks reach
-/// behind it. Left indices may call, too.
+/// Of a schedule under which each stored function is a root function that is computed at no loop, the group of each function whose loops are split once, with
+/// whatever tails and in whatever order they stand, whichever loops are parallel but the inner ones, and the outer ones of splits with `shift`; where what is
+/// fetched holds the calls, blocks that run past the end reach numbers of 32 bits alone, and each left index that is no variable, and each index of a call of the
+/// function itself at its place, is shown to lie in its dimension, also where this has more numbers behind it: all that its lines owe is shown, where the tests
+/// of nests say yes to plain nests and to split ones, as the checker's do. Neither K2, K4, K5, K6 nor K7 is told of them. Each other coordinate is a number of 32
+/// bits: the first number of a block, which the grid or an outer loop tells, and an inner loop's symbol, or a let behind the guard that keeps them. Reduction
+/// variables are loops over their ranges; an update's calls of its own function are of the point where it stores, at each place where that sets the variable. A
+/// dimension that a left index sets has no parallel loop, so each piece has it whole, with what its blocks reach behind it. Left indices may call, too.
 pub fn blocked_groups_owe_shown()
     ensures { BlockedGroupsOweShown }
 {}
 
-/// So it is, whatever such a function fetches, where the region that is needed of it begins within 2^16 of 0 in each dimension, or, wherever it begins, each
-/// index of its definitions is a literal or a variable, plus or minus literals and clamped to literals or not, and no block reaches a number past 32 bits: the
-/// forms of what its indices stay within then have no multiples that go farther than 2^39 + 2^37 together, so that the checker's search, which adds a number
-/// to each, stays within the limits of forms wherever `lower` did, and finds of each index no more than the ends by which `lower` told the regions of the
-/// functions it calls. Where some left index is no variable, asking for its own region came to an end: what its updates set and call, over the loops
-/// over that region, adds nothing to it. So each left index lies in it.
+/// So it is, whatever such a function fetches, where the region that is needed of it begins within 2^16 of 0 in each dimension, none of its loops is split with
+/// `shift` and no `guard` keeps numbers by a line of its own, or, wherever it begins, each index of its definitions is a literal or a variable, plus or minus
+/// literals and clamped to literals or not: the forms of what its indices stay within then have no multiples that go farther than 2^39 + 2^37 together, so that the
+/// checker's search, which adds a number to each, stays within the limits of forms wherever `lower` did, and finds of each index no more than the ends by which
+/// `lower` told the regions of the functions it calls. Where some left index is no variable, asking for its own region came to an end: what its updates set and
+/// call, over the loops over that region, adds nothing to it. So each left index lies in it. Where blocks run past the numbers of 32 bits under `roundup`, what is
+/// not shown is owed at the lines of stores with a coordinate that is not shown to be such a number, of which a limit (K14) is told first, and no store of the
+/// group is one that is told to leave its buffer before that.
 pub fn near_blocked_groups_owe_shown()
     ensures { NearBlockedGroupsOweShown }
 {}
