@@ -49,3 +49,4 @@ pub mod EachWord
 pub mod Words
 pub mod Casts
 pub mod GivenRows
+pub mod UpdateNumbers

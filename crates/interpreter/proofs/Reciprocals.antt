@@ -6,7 +6,7 @@ use Rattle.numeric.specs.declared.ty.Ty.{Ty}
 use Rattle.numeric.specs.declared.op.Op.TheVariants.{Div}
 use Rattle.numeric.specs.Apply.{apply, quotient}
 use Rattle.numeric.specs.Wrap.{wrap}
-use Rattle.interpreter.specs.Evaluation.Quotients.{IsReciprocal}
+use Rattle.interpreter.specs.Evaluation.Quotients.{IsReciprocal, IsShortReciprocal}
 use Rattle.interpreter.proofs.Divisions.{quotient_above, quotient_is}
 
 -- a quotient, where the product lies between it and the next one
@@ -65,4 +65,23 @@ reciprocal_is d m some few is =
 pub divided_small : (t : Ty) (z y : ℤ) (n m d : ℕ) → z ≡ pos n → n < 2 ^ 16 → IsReciprocal m d → y ≡ pos ((n * m) / (2 ^ 32)) → wrap t y ≡ apply Div t z (pos d)
 divided_small t z y n m d is small h e =
     ap (wrap t) (e ∙ ap (λ (x : ℕ). pos x) (small_division n m d small h) ∙ sym (quotient_above n d h.some))
+    ∙ ap (λ (x : ℤ). wrap t (quotient x (pos d))) (sym is)
+
+-- the same with a factor of 16 bits
+short_division : (n m s d : ℕ) → n < 2 ^ 16 → IsShortReciprocal m s d → (n * m) / (2 ^ s) ≡ n / d
+short_division n m s d small h =
+    let p : ℕ = 2 ^ s in
+    let e : ℕ = m * d - p in
+    let low : p ≤ m * d = h.low in
+    let high : m * d * 2 ^ 16 < p * 2 ^ 16 + p = h.high in
+    let more : m * d ≡ p + e = omega (arith, low) in
+    let most : n ≤ 2 ^ 16 - 1 = omega (arith, small) in
+    let lost : n * e ≤ (2 ^ 16 - 1) * e = mul-le-mul_right e most in
+    let split : n * (m * d) ≡ n * p + n * e = ap (λ (x : ℕ). n * x) more ∙ mul-add n p e in
+    let next : (n + 1) * p ≡ n * p + 1 * p = add-mul n 1 p in
+    by_reciprocal p n m d h.some low (omega (arith, split, lost, next, more, high))
+
+pub divided_short : (t : Ty) (z : ℤ) (n m s d w : ℕ) → z ≡ pos n → n < 2 ^ 16 → IsShortReciprocal m s d → w ≡ (n * m) / (2 ^ s) → wrap t (pos w) ≡ apply Div t z (pos d)
+divided_short t z n m s d w is small h e =
+    ap (wrap t) (ap (λ (x : ℕ). pos x) (e ∙ short_division n m s d small h) ∙ sym (quotient_above n d h.some))
     ∙ ap (λ (x : ℤ). wrap t (quotient x (pos d))) (sym is)

@@ -66,7 +66,7 @@ pub record IsTargets (o : Option (List ℤ)) (n : ℕ) (ys known : List ℤ) : T
   pub others : drop n ys ≡ drop n known
 
 -- with a number in front
-cons_front : (z : ℤ) (o : Option (List ℤ)) (ys : List ℤ) (P : Type 0) → with o (λ l. Some (z ∷ l)) ≡ Some ys → ((l : List ℤ) → o ≡ Some l → z ∷ l ≡ ys → P) → P
+pub cons_front : (z : ℤ) (o : Option (List ℤ)) (ys : List ℤ) (P : Type 0) → with o (λ l. Some (z ∷ l)) ≡ Some ys → ((l : List ℤ) → o ≡ Some l → z ∷ l ≡ ys → P) → P
 cons_front z None ys P e f = absurd (cc)
 cons_front z (Some l) ys P e f = let is : z ∷ l ≡ ys = cc in f l refl is
 

@@ -1,5 +1,5 @@
 -- Updates at the turns of a run: what registers hold for all turns, and what is left to each turn.
-use Rattle.std.specs.Prelude.{◌≡◌, ◌<◌, ◌≤◌, ◌-◌, ℕ, zero, suc, List, [], ◌∷◌, drop, length, map, Option, Some, None, ℤ, pos, ◌+ℤ◌, string_bytes}
+use Rattle.std.specs.Prelude.{◌≡◌, ◌<◌, ◌≤◌, ◌-◌, ℕ, zero, suc, List, [], ◌∷◌, drop, length, map, Option, Some, None, ℤ, pos, ◌+ℤ◌, ◌-ℤ◌, ◌*ℤ◌, string_bytes}
 use Rattle.tree.specs.declared.value.Value.{Value}
 use Rattle.tree.specs.Meaning.{typed, applied}
 use Rattle.tree.specs.Term.{Term, indices, list_terms}
@@ -14,10 +14,12 @@ use Rattle.plan.specs.Semantics.Memory.{Memory, read, write}
 use Rattle.plan.specs.Semantics.Run.{look}
 use Rattle.interpreter.specs.Evaluation.Lanes.{number_at}
 use Rattle.interpreter.specs.Pieces.{around, no_cells}
-use Rattle.interpreter.specs.Runs.{numbers_of, IsBut}
+use Rattle.interpreter.specs.Runs.{numbers_at, numbers_of, IsBut}
 use Rattle.interpreter.specs.Steps.{Progress}
 use Rattle.interpreter.specs.declared.evaluation.lanes.Number.{Number}
 use Rattle.interpreter.specs.declared.piece.Piece.{Piece}
+use Rattle.interpreter.specs.declared.update_reading.Bound.{Bound}
+use Rattle.interpreter.specs.declared.update_reading.Bound.TheVariants.{Steps, Column}
 use Rattle.interpreter.specs.declared.update_reading.UpdateReading.{UpdateReading}
 use Rattle.interpreter.specs.declared.updates.Operand.{Operand}
 use Rattle.interpreter.specs.declared.updates.Operand.TheVariants.{Known, Own}
@@ -73,9 +75,30 @@ pub record IsOperation (o : Operation) : Type 0 where
 abbrev pub IsOwnCall : Piece → ℕ → Term → List Expr → Type 0
 IsOwnCall x b e at = (vs : List ℕ → ℤ) (m : Memory Value) → found vs (look (around x no_cells) m) e ≡ with (all_found vs (look (around x no_cells) m) (indices (list_terms at))) (λ zs. read m b zs)
 
+-- The number of a coordinate that is the first one as far as a form tells it, and for which a register has the second one. The latter is looked at only where an expression finds the coordinate.
+abbrev pub update_number : ℕ → Index → ℤ → ℤ → ℤ
+update_number zero (At l) z y = z
+update_number (suc p) (At l) z y = z
+update_number zero (Found e) z y = z
+update_number (suc p) (Found e) z y = y
+
+-- and of all coordinates
+abbrev pub update_numbers : ℕ → List Coordinate → List ℤ → List ℤ → List ℤ
+update_numbers p [] zs ys = []
+update_numbers p (c ∷ cs) [] ys = []
+update_numbers p (c ∷ cs) (z ∷ zs) [] = []
+update_numbers p (c ∷ cs) (z ∷ zs) (y ∷ ys) = update_number p (coordinate_of c).index z y ∷ update_numbers (p - 1) cs zs ys
+
+-- what a variable stands for at a turn
+abbrev pub bound_number : Bound → ℕ → ℤ
+bound_number (Steps x y) k = x +ℤ (y -ℤ x) *ℤ pos k
+bound_number (Column c) k = number_at c.now k
+
 -- the numbers that variables stand for at a turn
 abbrev pub variables_at : UpdateReading → ℕ → List ℕ → ℤ
-variables_at r k = bound (map (λ c. string_bytes c.variable) r.reading.coordinates.now) (columns_at r.count (length r.reading.coordinates.now) r.columns.now k)
+variables_at r k =
+    bound (map (λ c. string_bytes c.variable) r.reading.coordinates.now)
+    (update_numbers r.size r.reading.coordinates.now (numbers_at r.reading.first.now r.reading.second.now k) (columns_at r.count (length r.reading.coordinates.now) r.columns.now k))
 
 -- a value set at a point
 abbrev pub sets_or_none : ℕ → Progress → List ℤ → Value → Option Progress

@@ -424,7 +424,7 @@ fn number_in(lanes: Lanes, register: &[u32], turn: usize) -> Option<i64>
 
 /// The numbers of a coordinate at so many turns, by those of the first turn and of the second. They are put into the register
 /// where they neither stay nor rise by one.
-fn lanes_of(first: i64, second: i64, out: &mut [u32]) -> Option<Lanes>
+pub(crate) fn lanes_of(first: i64, second: i64, out: &mut [u32]) -> Option<Lanes>
     ensures narrow { IfSome result (IsNarrowFor (length out.new)) }
     ensures lanes { IfSome result (λ x. (k : ℕ) → k < length out.new → typed I32 (first +ℤ (second -ℤ first) *ℤ pos k) ≡ lane x out.new k) }
 {

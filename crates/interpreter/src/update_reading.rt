@@ -1,7 +1,7 @@
 //! What an update's expression is evaluated over at the turns of a run, where its coordinates' numbers are in registers.
 
 ghost use Rattle.std.specs.Bool.{OnTrue};
-ghost use Rattle.std.specs.Prelude.{◌≡◌, ◌<◌, ◌≤◌, ◌+ℤ◌, ◌≤ℤ◌, ◌^◌, ℕ, pos, IfSome, length, map, string_bytes};
+ghost use Rattle.std.specs.Prelude.{◌≡◌, ◌<◌, ◌≤◌, ◌+ℤ◌, ◌-ℤ◌, ◌*ℤ◌, ◌≤ℤ◌, ◌^◌, ℕ, pos, IfSome, length, map, string_bytes};
 ghost use Rattle.numeric.specs.declared.ty.Ty.TheVariants.{I32};
 ghost use Rattle.plan.specs.Semantics.Run.{look};
 ghost use Rattle.meaning.specs.Names.{bound};
@@ -9,43 +9,77 @@ ghost use Rattle.tree.specs.Meaning.{typed};
 ghost use Rattle.interpreter.specs.Buffers.Blocks.{memory_of};
 ghost use Rattle.interpreter.specs.Evaluation.Lanes.{lane, number_at, IsNarrowFor, IsShortRamp};
 ghost use Rattle.interpreter.specs.Pieces.{around, no_cells};
-ghost use Rattle.interpreter.specs.Runs.{IsBut};
-ghost use Rattle.interpreter.specs.Updates.{columns_at};
+ghost use Rattle.interpreter.specs.Runs.{numbers_at, IsBut};
+ghost use Rattle.interpreter.specs.Updates.{bound_number, columns_at, update_number, update_numbers, variables_at};
+ghost use Rattle.plan.specs.View.{coordinate_of};
 
 use crate::evaluation::{Lanes, Number, RunReader, narrow_words};
-use crate::run_reading::RunReading;
+use crate::run_reading::{RunReading, lanes_of};
 use meaning::sameness::same_name;
 use numeric::Ty;
-use plan::Coordinate;
+use plan::{Coordinate, Index};
 
-/// Registers of so many numbers, which hold the numbers of all coordinates of a store at the turns of a run.
+/// Registers of so many numbers, which hold the numbers of all coordinates of a store at the turns of a run. The first so many
+/// coordinates are those of the point.
 #[derive(Clone, Copy, Drop)]
 pub(crate) struct UpdateReading<'a, 'm> {
     pub reading: RunReading<'a, 'm>,
+    pub size: usize,
     pub columns: &'m [Number],
     pub count: usize,
 }
 
-/// The register of the first coordinate of a variable's name.
-fn column_of<'m>(
+/// What a variable stands for at the turns of a run.
+#[derive(Clone, Copy, Drop)]
+pub(crate) enum Bound<'m> {
+    /// This number at the first turn, that one at the second, and as much more at each later one.
+    Steps(i64, i64),
+    /// The numbers of a register.
+    Column(&'m [Number]),
+}
+
+/// What a coordinate is at the turns of a run. Only one of a point is found by an expression.
+fn bound_by<'m>(
+    coordinate: &Coordinate,
+    first: i64,
+    second: i64,
+    places: usize,
+    column: &'m [Number],
+) -> Bound<'m>
+    ensures { (k : ℕ) → bound_number result k ≡ update_number places (coordinate_of coordinate.now).index (first +ℤ (second -ℤ first) *ℤ pos k) (number_at column.now k) }
+{
+    match &coordinate.index {
+        Index::Found(_) if places > 0 => Bound::Column(column),
+        _ => Bound::Steps(first, second),
+    }
+}
+
+/// What the first coordinate of a variable's name is at the turns of a run. The first so many coordinates are those of the point.
+fn bound_in<'m>(
     coordinates: &[Coordinate],
+    first: &[i64],
+    second: &[i64],
+    places: usize,
     columns: &'m [Number],
     count: usize,
     name: &str,
-) -> Option<&'m [Number]>
-    ensures { IfSome result (λ c. (k : ℕ) → k < count → number_at c.now k ≡ bound (map (λ c. string_bytes c.variable) coordinates.now) (columns_at count (length coordinates.now) columns.now k) name.now) }
+) -> Option<Bound<'m>>
+    ensures { IfSome result (λ b. (k : ℕ) → k < count → bound_number b k ≡ bound (map (λ c. string_bytes c.variable) coordinates.now) (update_numbers places coordinates.now (numbers_at first.now second.now k) (columns_at count (length coordinates.now) columns.now k)) name.now) }
 {
-    let [coordinate, later @ ..] = coordinates else {
-        return None;
-    };
-    if columns.len() < count {
-        return None;
-    }
-    let (column, behind) = columns.split_at(count);
-    if same_name(coordinate.variable.as_str(), name) {
-        Some(column)
-    } else {
-        column_of(later, behind, count, name)
+    match (coordinates, first, second) {
+        ([coordinate, later @ ..], [number, first @ ..], [next, second @ ..]) => {
+            if columns.len() < count {
+                return None;
+            }
+            let (column, behind) = columns.split_at(count);
+            if same_name(coordinate.variable.as_str(), name) {
+                Some(bound_by(coordinate, *number, *next, places, column))
+            } else {
+                let places = places.saturating_sub(1);
+                bound_in(later, first, second, places, behind, count, name)
+            }
+        }
+        _ => None,
     }
 }
 
@@ -102,7 +136,7 @@ fn lanes_in(column: &[Number], out: &mut [u32]) -> Option<Lanes>
 }
 
 impl RunReader for UpdateReading<'_, '_> {
-    ghost variables = { λ r k. bound (map (λ c. string_bytes c.variable) r.reading.coordinates.now) (columns_at r.count (length r.reading.coordinates.now) r.columns.now k) };
+    ghost variables = { variables_at };
 
     ghost look = { λ r m. look (around r.reading.piece.now no_cells) m };
 
@@ -112,11 +146,20 @@ impl RunReader for UpdateReading<'_, '_> {
         if out.len() != self.count {
             return None;
         }
-        let column = column_of(self.reading.coordinates, self.columns, self.count, name)?;
-        if column.len() != out.len() {
-            return None;
+        let bound = bound_in(
+            self.reading.coordinates,
+            self.reading.first,
+            self.reading.second,
+            self.size,
+            self.columns,
+            self.count,
+            name,
+        )?;
+        match bound {
+            Bound::Steps(first, second) => lanes_of(first, second, out),
+            Bound::Column(column) if column.len() == out.len() => lanes_in(column, out),
+            Bound::Column(_) => None,
         }
-        lanes_in(column, out)
     }
 
     fn look_each(&self, name: &str, others: &[i64], out: &mut [Number]) -> Option<Ty> {

@@ -293,6 +293,7 @@ fn update_run(
     let (columns, rest) = registers.split_at_mut(start);
     let inner = UpdateReading {
         reading: *reader,
+        size,
         columns,
         count,
     };

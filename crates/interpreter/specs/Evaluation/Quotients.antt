@@ -12,3 +12,11 @@ pub record IsReciprocal (m d : ℕ) : Type 0 where
   pub few : d ≤ 2 ^ 16
   pub low : 2 ^ 32 ≤ m * d
   pub high : m * d < 2 ^ 32 + d
+
+-- a factor of 16 bits, and how many bits of its product with a number of 16 bits lie below the quotient by the divisor
+pub record IsShortReciprocal (m s d : ℕ) : Type 0 where
+  pub some : 0 < d
+  pub factor : m ≤ 2 ^ 16
+  pub shift : s < 32
+  pub low : 2 ^ s ≤ m * d
+  pub high : m * d * 2 ^ 16 < 2 ^ s * 2 ^ 16 + 2 ^ s

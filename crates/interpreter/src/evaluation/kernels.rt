@@ -18,8 +18,8 @@ use crate::evaluation::widths::{
     Signed8, Signed16, Signed32, Unsigned8, Unsigned16, Unsigned32, Width,
 };
 use crate::evaluation::words::{
-    applied_word, both_word, chosen_word, clamped_word, compared_word, either_word, exact_word,
-    extended_word, low_word, negated_word, not_word, word_number,
+    applied_to_word, applied_word, both_word, chosen_word, clamped_word, compared_word,
+    either_word, exact_word, extended_word, low_word, negated_word, not_word, word_number,
 };
 use numeric::{Comparison, Op, Ty};
 
@@ -190,6 +190,48 @@ pub(crate) fn apply_by(op: Op, ty: Ty, out: &mut [u32], right: Number)
         Op::Rem => apply_by_in::<Remainder>(ty, out, right),
         Op::Min => apply_by_in::<Smaller>(ty, out, right),
         Op::Max => apply_by_in::<Larger>(ty, out, right),
+    }
+}
+
+/// The operator on one number and each word of a register, put into another.
+#[inline(always)]
+fn apply_each_to<O: Operator, W: Width>(left: Number, right: &[u32], out: &mut [u32])
+    requires { length right.now ≡ length out.old }
+    ensures { (k : ℕ) → k < length out.new → word_at W.ty out.new k ≡ apply O.op W.ty left.value (word_at W.ty right.now k) }
+{
+    for turn in 0..out.len() {
+        out[turn] = applied_to_word::<O, W>(left, right[turn]);
+    }
+}
+
+/// The operator on one number and each word of a register, put into another, by a loop of the type's own.
+fn apply_to_in<O: Operator>(ty: Ty, left: Number, right: &[u32], out: &mut [u32])
+    requires { length right.now ≡ length out.old }
+    ensures { (k : ℕ) → k < length out.new → word_at ty out.new k ≡ apply O.op ty left.value (word_at ty right.now k) }
+{
+    match ty {
+        Ty::U8 => apply_each_to::<O, Unsigned8>(left, right, out),
+        Ty::U16 => apply_each_to::<O, Unsigned16>(left, right, out),
+        Ty::U32 => apply_each_to::<O, Unsigned32>(left, right, out),
+        Ty::I8 => apply_each_to::<O, Signed8>(left, right, out),
+        Ty::I16 => apply_each_to::<O, Signed16>(left, right, out),
+        Ty::I32 => apply_each_to::<O, Signed32>(left, right, out),
+    }
+}
+
+/// The operator on one number and each word of a register, put into another, by a loop of the operator's and the type's own.
+pub(crate) fn apply_to(op: Op, ty: Ty, left: Number, right: &[u32], out: &mut [u32])
+    requires { length right.now ≡ length out.old }
+    ensures { (k : ℕ) → k < length out.new → word_at ty out.new k ≡ apply op ty left.value (word_at ty right.now k) }
+{
+    match op {
+        Op::Add => apply_to_in::<Sum>(ty, left, right, out),
+        Op::Sub => apply_to_in::<Difference>(ty, left, right, out),
+        Op::Mul => apply_to_in::<Product>(ty, left, right, out),
+        Op::Div => apply_to_in::<Quotient>(ty, left, right, out),
+        Op::Rem => apply_to_in::<Remainder>(ty, left, right, out),
+        Op::Min => apply_to_in::<Smaller>(ty, left, right, out),
+        Op::Max => apply_to_in::<Larger>(ty, left, right, out),
     }
 }
 

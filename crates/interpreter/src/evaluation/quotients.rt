@@ -1,11 +1,11 @@
 //! Quotients and remainders by one number at all turns of a run, without a division at each.
 
 ghost use Rattle.std.specs.Bool.{OnTrue};
-ghost use Rattle.std.specs.Prelude.{◌≡◌, ◌<◌, ◌≤ℤ◌, ◌<ℤ◌, ◌*◌, ◌/◌, ◌%◌, ◌^◌, ℕ, IfSome, pos, negsuc, length};
+ghost use Rattle.std.specs.Prelude.{◌≡◌, ◌<◌, ◌≤◌, ◌≤ℤ◌, ◌<ℤ◌, ◌*◌, ◌/◌, ◌%◌, ◌^◌, ℕ, IfSome, pos, negsuc, length};
 ghost use Rattle.numeric.specs.Apply.{apply, quotient, remainder};
 ghost use Rattle.numeric.specs.declared.op.Op.TheVariants.{Div, Rem};
 ghost use Rattle.numeric.specs.Wrap.{wrap};
-ghost use Rattle.interpreter.specs.Evaluation.Quotients.{IsReciprocal, IsSmall};
+ghost use Rattle.interpreter.specs.Evaluation.Quotients.{IsReciprocal, IsShortReciprocal, IsSmall};
 ghost use Rattle.interpreter.specs.Evaluation.Words.{word_at};
 
 use crate::evaluation::kernels::applied_number;
@@ -251,14 +251,102 @@ fn divide_small<W: Width>(out: &mut [u32], divisor: u32, reciprocal: u32)
     }
 }
 
+/// What numbers of 16 bits are multiplied by, and how many of the product's bits lie below the quotient.
+#[derive(Clone, Copy, Drop)]
+struct ShortReciprocal {
+    factor: u32,
+    shift: u32,
+}
+
+/// Whether the product of each number of 16 bits with a factor is of 32 bits, and its bits above the first so many are the quotient.
+fn is_short(factor: u32, shift: u32, divisor: u32) -> bool
+    ensures { OnTrue result (IsShortReciprocal factor shift divisor) }
+{
+    if divisor < 1 || factor > 1 << 16 || shift > 31 {
+        return false;
+    }
+    let power = u64::from(1u32 << shift);
+    let product = u64::from(factor) * u64::from(divisor);
+    let Some(most) = product.checked_mul(1 << 16) else {
+        return false;
+    };
+    power <= product && most < power * (1 << 16) + power
+}
+
+/// The factor of 16 bits for a divisor, if one is found.
+fn short_reciprocal(divisor: u32) -> Option<ShortReciprocal>
+    ensures { IfSome result (λ r. IsShortReciprocal r.factor r.shift divisor) }
+{
+    if divisor < 2 || divisor > 1 << 15 {
+        return None;
+    }
+    let shift = 47u32.saturating_sub(divisor.leading_zeros()).min(31);
+    let factor = ((1u32 << shift).saturating_sub(1) / divisor).saturating_add(1);
+    if is_short(factor, shift, divisor) {
+        Some(ShortReciprocal { factor, shift })
+    } else {
+        None
+    }
+}
+
+/// The bits above the first so many of a product of two numbers of 16 bits.
+#[inline(always)]
+fn upper_bits(number: u32, factor: u32, shift: u32) -> u32
+    requires number { number < 2 ^ 16 }
+    requires factor { factor ≤ 2 ^ 16 }
+    requires shift { shift < 32 }
+    ensures { result ≡ (number * factor) / (2 ^ shift) }
+{
+    (number * factor) >> shift
+}
+
+/// The quotient of a word that is a number of 16 bits without a sign, by a product of 32 bits.
+#[inline(always)]
+fn short_word<W: Width>(word: u32, divisor: u32, by: ShortReciprocal) -> u32
+    requires small { IsSmall (wrap W.ty (pos word)) }
+    requires reciprocal { IsShortReciprocal by.factor by.shift divisor }
+    ensures { wrap W.ty (pos result) ≡ apply Div W.ty (wrap W.ty (pos word)) (pos divisor) }
+{
+    let number = small_number(word_number::<W>(word));
+    upper_bits(number, by.factor, by.shift)
+}
+
+/// Each word that is a number of 16 bits divided by one number, wrapped to the type, by a product of 32 bits.
+#[inline(always)]
+fn divide_short<W: Width>(out: &mut [u32], divisor: u32, by: ShortReciprocal)
+    requires small { (k : ℕ) → k < length out.old → IsSmall (word_at W.ty out.old k) }
+    requires reciprocal { IsShortReciprocal by.factor by.shift divisor }
+    ensures { (k : ℕ) → k < length out.new → word_at W.ty out.new k ≡ apply Div W.ty (word_at W.ty out.old k) (pos divisor) }
+{
+    for turn in 0..out.len() {
+        out[turn] = short_word::<W>(out[turn], divisor, by);
+    }
+}
+
+/// Each word that is a number of 16 bits divided by one number, wrapped to the type: by a product alone where there is a factor.
+#[inline(always)]
+fn divide_small_in<W: Width>(out: &mut [u32], divisor: u32)
+    requires { (k : ℕ) → k < length out.old → IsSmall (word_at W.ty out.old k) }
+    ensures { (k : ℕ) → k < length out.new → word_at W.ty out.new k ≡ apply Div W.ty (word_at W.ty out.old k) (pos divisor) }
+{
+    match short_reciprocal(divisor) {
+        Some(by) => divide_short::<W>(out, divisor, by),
+        None => match small_reciprocal(divisor) {
+            Some(reciprocal) => divide_small::<W>(out, divisor, reciprocal),
+            None => divide_each::<W>(out, divisor),
+        },
+    }
+}
+
 /// Each word divided by one number, wrapped to the type: by a product alone where all are of 16 bits.
 #[inline(always)]
 fn divide_in<W: Width>(out: &mut [u32], divisor: u32)
     ensures { (k : ℕ) → k < length out.new → word_at W.ty out.new k ≡ apply Div W.ty (word_at W.ty out.old k) (pos divisor) }
 {
-    match small_reciprocal(divisor) {
-        Some(reciprocal) if are_small::<W>(out) => divide_small::<W>(out, divisor, reciprocal),
-        _ => divide_each::<W>(out, divisor),
+    if are_small::<W>(out) {
+        divide_small_in::<W>(out, divisor);
+    } else {
+        divide_each::<W>(out, divisor);
     }
 }
 

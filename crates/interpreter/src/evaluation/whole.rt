@@ -11,8 +11,9 @@ ghost use Rattle.interpreter.specs.Evaluation.Repeats.{repeated_value};
 ghost use Rattle.interpreter.specs.Evaluation.Words.{bits_at, mask_at, word_at};
 
 use crate::evaluation::kernels::{
-    apply_all, apply_by, choose_each, clamp_all, clamp_between, clamp_by, compare_all, compare_by,
-    copy_each, extend_all, fill, fill_rising, fill_words, negate_all, rise_words, widen_all,
+    apply_all, apply_by, apply_to, choose_each, clamp_all, clamp_between, clamp_by, compare_all,
+    compare_by, copy_each, extend_all, fill, fill_rising, fill_words, negate_all, rise_words,
+    widen_all,
 };
 use crate::evaluation::lanes::{ClampedRamp, Lanes, Number};
 use crate::evaluation::operators::{applied, clamped, negated, wrapped};
@@ -259,6 +260,37 @@ fn apply_right(op: Op, ty: Ty, right: Lanes, out: &mut [u32], other: &mut [u32])
     }
 }
 
+/// The operator on one number and lanes over another register, put into this one.
+fn apply_left(
+    op: Op,
+    ty: Ty,
+    left: Number,
+    right: Lanes,
+    out: &mut [u32],
+    other: &mut [u32],
+) -> Option<()>
+    requires { length other.old ≡ length out.old }
+    ensures { IfSome result (λ _. (k : ℕ) → k < length out.new → word_at ty out.new k ≡ apply op ty left.value (lane_number right other.old k)) }
+{
+    spread_as(ty, right, other)?;
+    apply_to(op, ty, left, other, out);
+    Some(())
+}
+
+/// The operator on lanes where a register is needed: the words of the left ones' type.
+fn apply_words(op: Op, left: Lanes, right: Lanes, out: &mut [u32], other: &mut [u32]) -> Option<()>
+    requires { length other.old ≡ length out.old }
+    ensures { IfSome result (λ _. (k : ℕ) → k < length out.new → word_at (type_of left) out.new k ≡ apply op (type_of left) (lane_number left out.old k) (lane_number right other.old k)) }
+{
+    match left {
+        Lanes::Broadcast(ty, number) => apply_left(op, ty, number, right, out, other),
+        _ => {
+            spread(left, out)?;
+            apply_right(op, type_of(left), right, out, other)
+        }
+    }
+}
+
 /// The operator on lanes, the left ones over this register and the right ones over another.
 pub(crate) fn apply_lanes(
     op: Op,
@@ -274,8 +306,7 @@ pub(crate) fn apply_lanes(
     match apply_whole(op, left, right, out.len()) {
         Some(lanes) => Some(lanes),
         None => {
-            spread(left, out)?;
-            apply_right(op, type_of(left), right, out, other)?;
+            apply_words(op, left, right, out, other)?;
             Some(Lanes::Vector(type_of(left)))
         }
     }

@@ -60,6 +60,14 @@ pub(crate) fn applied_word<O: Operator, W: Width>(left: u32, right: Number) -> u
     low_word(applied_number::<O, W>(word_number::<W>(left), right))
 }
 
+/// The operator on a number and a word, wrapped to the word's type.
+#[inline(always)]
+pub(crate) fn applied_to_word<O: Operator, W: Width>(left: Number, right: u32) -> u32
+    ensures { wrap W.ty (pos result) ≡ apply O.op W.ty left.value (wrap W.ty (pos right)) }
+{
+    low_word(applied_number::<O, W>(left, word_number::<W>(right)))
+}
+
 /// The wrapped negation of a word.
 #[inline(always)]
 pub(crate) fn negated_word<W: Width>(word: u32) -> u32
