@@ -159,10 +159,11 @@ fn seen<J: Run>(
     if before || !comes_to_know(&board, &mut second, piece) {
         return None;
     }
-    match checked.own(piece as usize) {
-        [cell, ..] => Some((piece, board.look(&mut second, *cell))),
-        [] => None,
+    let own = checked.own(piece as usize);
+    if own.is_empty() {
+        return None;
     }
+    Some((piece, board.look(&mut second, own.cell(0))))
 }
 
 // The cells of a checked plan.

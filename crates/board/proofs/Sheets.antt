@@ -1,15 +1,20 @@
 -- What stands on a sheet.
-use Rattle.std.proofs.Common.{◌≡◌, ℕ, ◌+◌, ◌*◌, ◌<◌, ◌≤◌, ℤ, List, [], ◌∷◌, length, get_or, set, inl, inr, refl, sym, ap, subst, ◌∙◌, arith, get_or-set_same, get_or-set_other}
+use Rattle.std.proofs.Common.{◌≡◌, ℕ, zero, suc, ◌+◌, ◌*◌, ◌-◌, ◌<◌, ◌≤◌, ℤ, List, [], ◌∷◌, ◌++◌, length, get_or, set, inl, inr, refl, sym, ap, subst, ◌∙◌, arith, get_or-set_same, get_or-set_other}
 use Rattle.std.specs.Prelude.{drop, map, slice_index, take}
 use mathlib.Core.Logic.{dite}
 use native.Mathlib.Decide.{ℕ_discrete}
 use Rattle.std.proofs.lemmas.Bool.{cases_lt}
-use Rattle.std.proofs.lemmas.List.{ext_get_or, get_or-drop, get_or-map, get_or-take, length-drop, length-map, length-take-le}
-use Rattle.std.proofs.lemmas.List.FromFn.{fill_by_all}
+use Rattle.std.proofs.lemmas.List.{append-nil, ext_get_or, get_or-drop, get_or-map, get_or-take, length-append, length-drop, length-map, length-take-le, take-append-drop, take_more}
+use Rattle.std.proofs.lemmas.List.FromFn.{fill_by_all, get_or-range_with_len, length-range_with_len}
+use Rattle.std.proofs.lemmas.Grind.{flat_map-append}
+use Rattle.std.proofs.Math.Seq.{get_or-append_right}
+use Rattle.std.proofs.Math.ListN.{get_or-append}
+use Rattle.orders.specs.CellRuns.{cells_of, run_cells}
+use Rattle.orders.specs.declared.cell_runs.CellRun.{CellRun}
 use Rattle.orders.proofs.Claiming.{place_of}
 use Rattle.meaning.specs.Image.Raster.{natural}
 use Rattle.board.specs.Layout.{Layout, own_of, picture_of, pieces_of, samples_in, shown_cell, value_at, IsSound, ShowsSamples}
-use Rattle.board.specs.Sheets.{bits_at, HasBits, IsPut}
+use Rattle.board.specs.Sheets.{bits_at, HasBits, HasRow, IsPut}
 use Rattle.board.specs.Words.{bits_of}
 use Rattle.board.proofs.Colours.{same_pixel}
 use Rattle.board.proofs.Samples.{sample_bits}
@@ -44,16 +49,64 @@ row_at values bits cells row first is inside follow had =
     get_or-take (length cells) (drop first bits) k 0 lt ∙ get_or-drop first bits k 0 ∙ ap (λ (n : ℕ). get_or bits n 0) (sym (follow k lt)) ∙ had k lt
     ∙ sym (get_or-map (λ n. bits_of (value_at values n)) cells k 0 0 lt))
 
--- one more cell of a part of a list is set, and what had its bits has them still
-pub one_set : (values : List ℤ) (now after cells : List ℕ) (from i v : ℕ) → slice_index cells i < length now
-    → v ≡ bits_of (value_at values (slice_index cells i)) → after ≡ set now (slice_index cells i) v
-    → ((m : ℕ) → from ≤ m → m < i → HasBits values now (slice_index cells m)) → (m : ℕ) → from ≤ m → m < i + 1 → HasBits values after (slice_index cells m)
-one_set values now after cells from i v room is set_is had m in_part lt = subst (λ (bs : List ℕ). HasBits values bs (slice_index cells m)) (sym set_is) (elim (cases_lt m i) [
-  | inl before ↦ set_keeps values now (slice_index cells i) v (slice_index cells m) room is (had m in_part before)
+-- one more cell of a row is set
+pub row_set : (values : List ℤ) (now after : List ℕ) (first i v : ℕ) → first + i < length now → v ≡ bits_of (value_at values (first + i)) → after ≡ set now (first + i) v → HasRow values now first i → HasRow values after first (i + 1)
+row_set values now after first i v room is set_is had m lt = subst (λ (bs : List ℕ). HasBits values bs (first + m)) (sym set_is) (elim (cases_lt m i) [
+  | inl before ↦ set_keeps values now (first + i) v (first + m) room is (had m before)
   | inr past ↦
       let same : m ≡ i = omega (arith, past, lt) in
-      subst (λ (n : ℕ). HasBits values (set now (slice_index cells i) v) (slice_index cells n)) (sym same) (set_here values now (slice_index cells i) v room is)
+      subst (λ (n : ℕ). HasBits values (set now (first + i) v) (first + n)) (sym same) (set_here values now (first + i) v room is)
 ])
+
+-- a row, and one that follows it
+pub row_joined : (values : List ℤ) (bits : List ℕ) (first done more : ℕ) → HasRow values bits first done → HasRow values bits (first + done) more → HasRow values bits first (done + more)
+row_joined values bits first done more had next k lt = elim (cases_lt k done) [
+  | inl before ↦ had k before
+  | inr past ↦ subst (HasBits values bits) (let e : first + done + (k - done) ≡ first + k = omega (arith, past) in e) (next (k - done) (omega (arith, past, lt)))
+]
+
+-- what was kept is kept in a row
+pub row_kept : (values : List ℤ) (before after : List ℕ) (first count : ℕ) → ((c : ℕ) → HasBits values before c → HasBits values after c) → HasRow values before first count → HasRow values after first count
+row_kept values before after first count more had k lt = more (first + k) (had k lt)
+
+-- the cells of one run more
+pub cells_more : (rs : List CellRun) (k : ℕ) (d : CellRun) → k < length rs → length (cells_of (take (k + 1) rs)) ≡ length (cells_of (take k rs)) + (get_or rs k d).count
+cells_more rs k d less =
+    let r = get_or rs k d in
+    let before = take k rs in
+    let long = length-append (cells_of before) (run_cells r ++ []) in
+    let own = length-range_with_len r.first r.count in
+    let none = ap length (append-nil (run_cells r)) in
+    let all : length (cells_of (take (k + 1) rs)) ≡ length (cells_of before ++ (run_cells r ++ [])) = ap (λ (xs : List CellRun). length (cells_of xs)) (take_more rs k d less) ∙ ap length (flat_map-append run_cells before (r ∷ [])) in
+    omega (arith, all, long, own, none)
+
+-- the cells of a run and of those before it are no more than all
+pub run_within : (rs : List CellRun) (k : ℕ) (d : CellRun) → k < length rs → length (cells_of (take k rs)) + (get_or rs k d).count ≤ length (cells_of rs)
+run_within rs k d less =
+    let more = cells_more rs k d less in
+    let parts = flat_map-append run_cells (take (k + 1) rs) (drop (k + 1) rs) in
+    let all : length (cells_of rs) ≡ length (cells_of (take (k + 1) rs) ++ cells_of (drop (k + 1) rs)) = ap (λ (xs : List CellRun). length (cells_of xs)) (sym (take-append-drop (k + 1) rs)) ∙ ap length parts in
+    let long = length-append (cells_of (take (k + 1) rs)) (cells_of (drop (k + 1) rs)) in
+    omega (arith, more, all, long)
+
+-- a cell of a run stands behind those of the runs before it
+pub run_stands : (rs : List CellRun) (k : ℕ) (d : CellRun) → k < length rs → (j : ℕ) → j < (get_or rs k d).count
+    → (length (cells_of (take k rs)) + j < length (cells_of rs)) × (slice_index (cells_of rs) (length (cells_of (take k rs)) + j) ≡ (get_or rs k d).first + j)
+run_stands [] k d less j low = absurd (omega (arith, less))
+run_stands (r ∷ rs) zero d less j low =
+    let own = length-range_with_len r.first r.count in
+    let long = length-append (run_cells r) (cells_of rs) in
+    let within : j < length (run_cells r) = omega (arith, own, low) in
+    (omega (arith, own, long, low), ap (λ (i : ℕ). get_or (cells_of (r ∷ rs)) i 0) (let e : 0 + j ≡ j = omega arith in e) ∙ get_or-append (run_cells r) (cells_of rs) 0 j within ∙ get_or-range_with_len r.first r.count j 0 low)
+run_stands (r ∷ rs) (suc k) d less j low =
+    let rest = run_stands rs k d (omega (arith, less)) j low in
+    let before = length (cells_of (take k rs)) in
+    let long = length-append (run_cells r) (cells_of rs) in
+    let all = length-append (run_cells r) (cells_of (take k rs)) in
+    let i = length (run_cells r ++ cells_of (take k rs)) + j in
+    let there : i - length (run_cells r) ≡ before + j = omega (arith, all) in
+    let within = rest.0 in
+    (omega (arith, all, long, within), get_or-append_right (run_cells r) (cells_of rs) i 0 (omega (arith, all)) ∙ ap (λ (n : ℕ). get_or (cells_of rs) n 0) there ∙ rest.1)
 
 pub others_kept : (values : List ℤ) (now after : List ℕ) (d v c : ℕ) → d < length now → v ≡ bits_of (value_at values d) → after ≡ set now d v → HasBits values now c → HasBits values after c
 others_kept values now after d v c room is set_is had = subst (λ (bs : List ℕ). HasBits values bs c) (sym set_is) (set_keeps values now d v c room is had)

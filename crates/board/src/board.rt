@@ -58,7 +58,7 @@ impl<'a, J: Run> Board<'a, J> {
 
     /// A board with nothing drawn, and its first seat, which may split off 63 more.
     ///
-    /// It takes 8 bytes for each piece and each cell (twice as much while it opens), 16 for each piece, which are where its own
+    /// It takes 8 bytes for each piece and each cell (twice as much while it opens), 8 more for each piece, which are where its own
     /// cells stand, and 2 for each sample of the picture. Where the cells of the samples don't stand in planes it keeps these too,
     /// 4 bytes each.
     pub fn open<S: Source<'a>>(
@@ -154,7 +154,10 @@ impl<'a, J: Run> Board<'a, J> {
         ensures unset { AtStep J.layout J.values seat.old.view (λ words. cell J.layout words (own_cell J.layout ticket.old.piece ticket.old.puts) ≡ 0) }
         ensures working { IsTicketOf J.layout seat.new.view ticket.new }
     {
-        let cell = self.own.get(ticket.piece as usize)[ticket.puts];
+        let own = self.own.get(ticket.piece as usize);
+        // No number is taken of this call. It says that there are few own cells.
+        own.len();
+        let cell = own.cell(ticket.puts);
         let place = 1 + self.own.len() + cell as usize;
         let word = 1 + bits(value);
         self.table

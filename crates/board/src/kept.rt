@@ -1,6 +1,6 @@
 //! How a sheet keeps its cells: as bits, or as the samples of the picture that shows them.
 
-ghost use Rattle.std.specs.Prelude.{◌≡◌, ◌+◌, ◌*◌, ◌^◌, ◌<◌, ◌≤◌, length, slice_index, slice_set};
+ghost use Rattle.std.specs.Prelude.{◌≡◌, ◌+◌, ◌*◌, ◌^◌, ◌<◌, ◌≤◌, length, slice_index};
 ghost use Rattle.board.specs.Kept.{all_bits, in_planes, planes_of, sample_place, Keeps};
 ghost use Rattle.board.specs.Layout.{samples_in};
 ghost use Rattle.board.specs.Shown.{Tells};
@@ -93,26 +93,5 @@ pub(crate) fn bits_of_cell(bits: &[u32], samples: &[u16], planes: Planes, cell: 
         bits[cell]
     } else {
         u32::from(samples[sample_place(planes, cell - bits.len())])
-    }
-}
-
-/// Sets the bits of a cell.
-#[inline(always)]
-pub(crate) fn set_bits(
-    bits: &mut [u32],
-    samples: &mut [u16],
-    planes: Planes,
-    cell: usize,
-    value: u32,
-)
-    requires inside { cell < length bits.old + in_planes planes }
-    requires fits { in_planes planes ≤ length samples.old }
-    requires small { length bits.old ≤ cell → value < 2 ^ 16 }
-    ensures { all_bits planes bits.new samples.new ≡ slice_set (all_bits planes bits.old samples.old) cell value }
-{
-    if cell < bits.len() {
-        bits[cell] = value;
-    } else {
-        samples[sample_place(planes, cell - bits.len())] = value as u16;
     }
 }

@@ -1,19 +1,20 @@
 //! Putting the values of cells on a sheet.
 //!
-//! Most cells of a piece follow each other: a row of them is put by a loop of its own, which looks at no cell.
+//! The cells of a piece are told by runs of cells that follow each other: each is put by loops that look at no cell.
 
 ghost use Rattle.std.specs.Prelude.{◌≡◌, ◌+◌, ◌-◌, ◌*◌, ◌^◌, ◌<◌, ◌≤◌, ℕ, length, slice_index};
 ghost use Rattle.std.specs.Bool.{OnTrue};
 ghost use Rattle.board.specs.Kept.{all_bits, in_planes, AreSamples, FollowEachOther};
-ghost use Rattle.board.specs.Sheets.{bits_at, HasBits};
+ghost use Rattle.board.specs.Sheets.{bits_at, AreOfRow, HasBits, HasRow};
 ghost use Rattle.board.specs.Words.{bits_of};
 
-use crate::kept::{pixel_of, set_bits};
+use crate::kept::pixel_of;
 use crate::law::Run;
 use crate::source::Planes;
 use numeric::{Ty, wrap};
+use orders::CellRuns;
 
-/// How many cells at most are looked at and put together.
+/// How many cells at most are looked at together.
 pub(crate) const PART: usize = 1024;
 
 /// The 32 bits of a value.
@@ -84,150 +85,152 @@ pub(crate) fn follow_each_other(cells: &[u32], from: usize, to: usize) -> bool
     following as usize == to - from
 }
 
-// Puts the values of a part of the cells, one after another.
-#[inline(never)]
-fn put_singly<J: Run, V: Values>(
-    bits_now: &mut [u32],
-    samples: &mut [u16],
-    planes: Planes,
-    cells: &[u32],
-    values: &V,
-    from: usize,
-    to: usize,
-)
-    requires values { V.bits values.now ≡ bits_at J.values cells.now }
-    requires part { (from ≤ to) × (to ≤ length cells.now) }
-    requires inside { (k : ℕ) → k < length cells.now → slice_index cells.now k < length bits_now.old + in_planes planes }
-    requires fits { in_planes planes ≤ length samples.old }
-    requires samples { AreSamples J.values (length bits_now.old) (length bits_now.old + in_planes planes) }
-    ensures put { (k : ℕ) → from ≤ k → k < to → HasBits J.values (all_bits planes bits_now.new samples.new) (slice_index cells.now k) }
-    ensures more { (c : ℕ) → HasBits J.values (all_bits planes bits_now.old samples.old) c → HasBits J.values (all_bits planes bits_now.new samples.new) c }
-{
-    for place in from..to {
-        let value = values.at(place);
-        set_bits(bits_now, samples, planes, cells[place] as usize, value);
-    }
-}
-
-// Puts the values of a part of the cells, which follow each other and are kept as bits.
+// Puts a row of cells that are kept as bits.
 fn put_as_bits<J: Run, V: Values>(
     bits_now: &mut [u32],
     samples: &mut [u16],
     planes: Planes,
-    cells: &[u32],
+    first: usize,
     values: &V,
     from: usize,
-    to: usize,
+    count: usize,
 )
-    requires values { V.bits values.now ≡ bits_at J.values cells.now }
-    requires part { (from < to) × (to ≤ length cells.now) }
-    requires follow { FollowEachOther cells.now from to }
-    requires inside { slice_index cells.now from + (to - from) ≤ length bits_now.old }
-    ensures put { (k : ℕ) → from ≤ k → k < to → HasBits J.values (all_bits planes bits_now.new samples.new) (slice_index cells.now k) }
+    requires values { from + count ≤ length (V.bits values.now) }
+    requires few { from + count < 2 ^ 32 }
+    requires row { AreOfRow J.values (V.bits values.now) from first count }
+    requires inside { first + count ≤ length bits_now.old }
+    ensures put { HasRow J.values (all_bits planes bits_now.new samples.new) first count }
     ensures more { (c : ℕ) → HasBits J.values (all_bits planes bits_now.old samples.old) c → HasBits J.values (all_bits planes bits_now.new samples.new) c }
 {
-    let start = cells[from] as usize;
-    for place in from..to {
-        bits_now[start + (place - from)] = values.at(place);
+    for more in 0..count {
+        bits_now[first + more] = values.at(from + more);
     }
 }
 
-// Puts the values of a part of the cells, which follow each other and are kept as samples of one colour. The first has this pixel
-// and this colour.
-fn put_as_samples<J: Run, V: Values>(
-    bits_now: &mut [u32],
-    samples: &mut [u16],
-    planes: Planes,
-    cells: &[u32],
-    values: &V,
-    from: usize,
-    to: usize,
-    pixel: usize,
-    colour: usize,
-)
-    requires values { V.bits values.now ≡ bits_at J.values cells.now }
-    requires part { (from < to) × (to ≤ length cells.now) }
-    requires follow { FollowEachOther cells.now from to }
-    requires inside { (k : ℕ) → k < length cells.now → slice_index cells.now k < length bits_now.old + in_planes planes }
-    requires fits { in_planes planes ≤ length samples.old }
-    requires samples { AreSamples J.values (length bits_now.old) (length bits_now.old + in_planes planes) }
-    requires first { slice_index cells.now from ≡ length bits_now.old + (colour * planes.pixels + pixel) }
-    requires one { pixel + (to - from) ≤ planes.pixels }
-    ensures put { (k : ℕ) → from ≤ k → k < to → HasBits J.values (all_bits planes bits_now.new samples.new) (slice_index cells.now k) }
-    ensures more { (c : ℕ) → HasBits J.values (all_bits planes bits_now.old samples.old) c → HasBits J.values (all_bits planes bits_now.new samples.new) c }
-{
-    for place in from..to {
-        samples[(pixel + (place - from)) * planes.colours + colour] = values.at(place) as u16;
-    }
-}
-
-// Puts the values of a part of the cells, which follow each other and are kept as samples of a grey picture.
+// Puts a row of cells that are kept as samples of a grey picture, the first of them at this place.
 fn put_as_grey<J: Run, V: Values>(
     bits_now: &mut [u32],
     samples: &mut [u16],
     planes: Planes,
-    cells: &[u32],
+    first: usize,
     values: &V,
     from: usize,
-    to: usize,
-    first: usize,
+    count: usize,
+    place: usize,
 )
-    requires values { V.bits values.now ≡ bits_at J.values cells.now }
-    requires part { (from < to) × (to ≤ length cells.now) }
-    requires follow { FollowEachOther cells.now from to }
-    requires inside { (k : ℕ) → k < length cells.now → slice_index cells.now k < length bits_now.old + in_planes planes }
+    requires values { from + count ≤ length (V.bits values.now) }
+    requires few { from + count < 2 ^ 32 }
+    requires row { AreOfRow J.values (V.bits values.now) from first count }
+    requires inside { first + count ≤ length bits_now.old + in_planes planes }
     requires fits { in_planes planes ≤ length samples.old }
     requires samples { AreSamples J.values (length bits_now.old) (length bits_now.old + in_planes planes) }
-    requires first { slice_index cells.now from ≡ length bits_now.old + first }
+    requires place { first ≡ length bits_now.old + place }
     requires grey { planes.colours ≡ 1 }
-    ensures put { (k : ℕ) → from ≤ k → k < to → HasBits J.values (all_bits planes bits_now.new samples.new) (slice_index cells.now k) }
+    ensures put { HasRow J.values (all_bits planes bits_now.new samples.new) first count }
     ensures more { (c : ℕ) → HasBits J.values (all_bits planes bits_now.old samples.old) c → HasBits J.values (all_bits planes bits_now.new samples.new) c }
 {
-    for place in from..to {
-        samples[first + (place - from)] = values.at(place) as u16;
+    for more in 0..count {
+        samples[place + more] = values.at(from + more) as u16;
     }
 }
 
-// Puts the values of a part of the cells: where they follow each other, as a row.
-fn put_part<J: Run, V: Values>(
+// Puts a row of cells that are kept as samples of one colour. The first has this pixel and this colour.
+fn put_as_samples<J: Run, V: Values>(
     bits_now: &mut [u32],
     samples: &mut [u16],
     planes: Planes,
-    cells: &[u32],
+    first: usize,
     values: &V,
     from: usize,
-    to: usize,
+    count: usize,
+    pixel: usize,
+    colour: usize,
 )
-    requires values { V.bits values.now ≡ bits_at J.values cells.now }
-    requires part { (from < to) × (to ≤ length cells.now) }
-    requires short { to - from ≤ 1024 }
-    requires inside { (k : ℕ) → k < length cells.now → slice_index cells.now k < length bits_now.old + in_planes planes }
+    requires values { from + count ≤ length (V.bits values.now) }
+    requires few { from + count < 2 ^ 32 }
+    requires row { AreOfRow J.values (V.bits values.now) from first count }
+    requires inside { first + count ≤ length bits_now.old + in_planes planes }
     requires fits { in_planes planes ≤ length samples.old }
     requires samples { AreSamples J.values (length bits_now.old) (length bits_now.old + in_planes planes) }
-    ensures put { (k : ℕ) → from ≤ k → k < to → HasBits J.values (all_bits planes bits_now.new samples.new) (slice_index cells.now k) }
+    requires place { first ≡ length bits_now.old + (colour * planes.pixels + pixel) }
+    requires one { pixel + count ≤ planes.pixels }
+    ensures put { HasRow J.values (all_bits planes bits_now.new samples.new) first count }
     ensures more { (c : ℕ) → HasBits J.values (all_bits planes bits_now.old samples.old) c → HasBits J.values (all_bits planes bits_now.new samples.new) c }
 {
-    let first = cells[from] as usize;
-    if !follow_each_other(cells, from, to) {
-        return put_singly::<J, V>(bits_now, samples, planes, cells, values, from, to);
+    for more in 0..count {
+        samples[(pixel + more) * planes.colours + colour] = values.at(from + more) as u16;
     }
-    if first + (to - from) <= bits_now.len() {
-        return put_as_bits::<J, V>(bits_now, samples, planes, cells, values, from, to);
-    }
+}
+
+// Puts as many of a row of cells, from the first on, as are kept alike: as bits, or as samples of one colour. Answers how many.
+fn put_alike<J: Run, V: Values>(
+    bits_now: &mut [u32],
+    samples: &mut [u16],
+    planes: Planes,
+    first: usize,
+    values: &V,
+    from: usize,
+    count: usize,
+) -> usize
+    requires some { 0 < count }
+    requires values { from + count ≤ length (V.bits values.now) }
+    requires few { from + count < 2 ^ 32 }
+    requires row { AreOfRow J.values (V.bits values.now) from first count }
+    requires inside { first + count ≤ length bits_now.old + in_planes planes }
+    requires fits { in_planes planes ≤ length samples.old }
+    requires samples { AreSamples J.values (length bits_now.old) (length bits_now.old + in_planes planes) }
+    ensures some { (0 < result) × (result ≤ count) }
+    ensures put { HasRow J.values (all_bits planes bits_now.new samples.new) first result }
+    ensures more { (c : ℕ) → HasBits J.values (all_bits planes bits_now.old samples.old) c → HasBits J.values (all_bits planes bits_now.new samples.new) c }
+{
     if first < bits_now.len() {
-        return put_singly::<J, V>(bits_now, samples, planes, cells, values, from, to);
+        let alike = count.min(bits_now.len() - first);
+        put_as_bits::<J, V>(bits_now, samples, planes, first, values, from, alike);
+        return alike;
     }
-    let before = first - bits_now.len();
+    let place = first - bits_now.len();
+    let (pixel, colour) = pixel_of(planes, place);
+    let alike = count.min(planes.pixels - pixel);
     if planes.colours == 1 {
-        return put_as_grey::<J, V>(bits_now, samples, planes, cells, values, from, to, before);
-    }
-    let (pixel, colour) = pixel_of(planes, before);
-    if pixel + (to - from) <= planes.pixels {
-        put_as_samples::<J, V>(
-            bits_now, samples, planes, cells, values, from, to, pixel, colour,
-        )
+        put_as_grey::<J, V>(bits_now, samples, planes, first, values, from, alike, place);
     } else {
-        put_singly::<J, V>(bits_now, samples, planes, cells, values, from, to)
+        put_as_samples::<J, V>(
+            bits_now, samples, planes, first, values, from, alike, pixel, colour,
+        );
+    }
+    alike
+}
+
+// Puts a row of cells.
+fn put_row<J: Run, V: Values>(
+    bits_now: &mut [u32],
+    samples: &mut [u16],
+    planes: Planes,
+    first: usize,
+    values: &V,
+    from: usize,
+    count: usize,
+)
+    requires values { from + count ≤ length (V.bits values.now) }
+    requires few { from + count < 2 ^ 32 }
+    requires row { AreOfRow J.values (V.bits values.now) from first count }
+    requires inside { 0 < count → first + count ≤ length bits_now.old + in_planes planes }
+    requires fits { in_planes planes ≤ length samples.old }
+    requires samples { AreSamples J.values (length bits_now.old) (length bits_now.old + in_planes planes) }
+    ensures put { HasRow J.values (all_bits planes bits_now.new samples.new) first count }
+    ensures more { (c : ℕ) → HasBits J.values (all_bits planes bits_now.old samples.old) c → HasBits J.values (all_bits planes bits_now.new samples.new) c }
+{
+    let mut done = 0;
+    while done < count {
+        done += put_alike::<J, V>(
+            bits_now,
+            samples,
+            planes,
+            first + done,
+            values,
+            from + done,
+            count - done,
+        );
     }
 }
 
@@ -236,7 +239,7 @@ pub(crate) fn put_bits<J: Run, V: Values>(
     bits_now: &mut [u32],
     samples: &mut [u16],
     planes: Planes,
-    cells: &[u32],
+    cells: &CellRuns,
     values: &V,
 )
     requires values { V.bits values.now ≡ bits_at J.values cells.now }
@@ -246,11 +249,13 @@ pub(crate) fn put_bits<J: Run, V: Values>(
     ensures put { (k : ℕ) → k < length cells.now → HasBits J.values (all_bits planes bits_now.new samples.new) (slice_index cells.now k) }
     ensures more { (c : ℕ) → HasBits J.values (all_bits planes bits_now.old samples.old) c → HasBits J.values (all_bits planes bits_now.new samples.new) c }
 {
-    let count = cells.len();
+    // No number is taken of this call. It says that there are few cells.
+    cells.len();
     let mut from = 0;
-    while from < count {
-        let to = from + PART.min(count - from);
-        put_part::<J, V>(bits_now, samples, planes, cells, values, from, to);
-        from = to;
+    for run in cells.runs() {
+        let first = run.first as usize;
+        let count = run.count as usize;
+        put_row::<J, V>(bits_now, samples, planes, first, values, from, count);
+        from += count;
     }
 }

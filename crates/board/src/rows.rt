@@ -7,13 +7,14 @@ ghost use Rattle.board.specs.Shown.{AreShown};
 
 use crate::source::Source;
 use meaning::image::laws::raster_is_order;
+use orders::CellRuns;
 use std::alloc::{AllocError, Global};
 use std::marker::Model;
 
 /// The own cells of each piece, where the source has them.
 #[derive(Drop)]
 pub(crate) struct Rows<'a> {
-    rows: Vec<&'a [u32]>,
+    rows: Vec<&'a CellRuns>,
 }
 
 impl<'a> Model for Rows<'a> {
@@ -45,7 +46,7 @@ impl<'a> Rows<'a> {
     }
 
     /// The own cells of a piece.
-    pub(crate) fn get(&self, piece: usize) -> &'a [u32]
+    pub(crate) fn get(&self, piece: usize) -> &'a CellRuns
         requires { piece < length self.now }
         ensures { result.now ≡ slice_index_or self.now piece [] }
     {

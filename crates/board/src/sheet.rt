@@ -52,7 +52,7 @@ impl<'a, J: Run> Sheet<'a, J> {
 
     /// A sheet on which nothing is put.
     ///
-    /// It takes 2 bytes for each sample of the picture, 16 for each piece, which are where its own cells stand, and 4 for each cell
+    /// It takes 2 bytes for each sample of the picture, 8 for each piece, which are where its own cells stand, and 4 for each cell
     /// that is not kept as a sample. Where the cells of the samples don't stand in planes it keeps these too, 4 bytes each.
     pub fn open<S: Source<'a>>(alloc: Global, source: &S) -> Result<Sheet<'a, J>, AllocError>
         requires layout { S.layout source.now ≡ J.layout }

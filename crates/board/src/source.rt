@@ -7,6 +7,7 @@ ghost use Rattle.board.specs.Layout.{Layout, pieces_of, own_of, IsSound};
 ghost use Rattle.board.specs.Shown.{StandInPlanes};
 
 use meaning::image::Shape;
+use orders::CellRuns;
 
 /// Where the cells of the picture's samples stand, where the cells of each colour follow each other in the order of the pixels,
 /// and those of one colour the ones of the colour before.
@@ -34,7 +35,7 @@ pub trait Source<'a> {
         ensures { result ≡ (layout self.now).cells };
 
     /// The own cells of a piece, in the order in which they are put.
-    fn own(&self, piece: usize) -> &'a [u32]
+    fn own(&self, piece: usize) -> &'a CellRuns
         requires { piece < pieces_of (layout self.now) }
         ensures { result.now ≡ own_of (layout self.now) piece };
 

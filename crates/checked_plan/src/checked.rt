@@ -9,7 +9,7 @@ ghost use Rattle.checked_plan.specs.Ready.Ready.{Ready};
 ghost use Rattle.checked_plan.specs.Lists.{ListsAreOf};
 
 use algo::Algo;
-use orders::Piece;
+use orders::{CellRuns, Piece};
 use plan::Plan;
 use plan::certificate::Cert;
 
@@ -91,11 +91,11 @@ impl Checked<'_> {
     }
 
     /// The numbers of the cells that a piece owns, in the order in which it puts them.
-    pub fn own(&self, piece: usize) -> &[u32]
+    pub fn own(&self, piece: usize) -> &CellRuns
         requires { piece < length self.now.pieces.items }
         ensures { (samples : List ℕ) → result.now ≡ (work_of (algorithm_checked self.now) (plan_checked self.now) (certificate_checked self.now) samples).own piece }
     {
-        self.pieces[piece].own.as_slice()
+        &self.pieces[piece].own
     }
 
     /// The numbers of the cells that a piece fetches, in the order in which it looks at them.

@@ -1,6 +1,6 @@
 //! How many cells a piece of a plan owns and fetches at most.
 
-ghost use Rattle.std.specs.Prelude.{◌≤◌, ℕ, length};
+ghost use Rattle.std.specs.Prelude.{◌≤◌, ℕ};
 ghost use Rattle.crew.specs.Opening.Layouts.{layout_of};
 ghost use Rattle.board.specs.Layout.{pieces_of};
 ghost use Rattle.crew.specs.Private.{IsMostFetched, IsMostOwn};
@@ -8,17 +8,13 @@ ghost use Rattle.crew.specs.Private.{IsMostFetched, IsMostOwn};
 use crate::opening::laws::own_is_of_work;
 use checked_plan::Checked;
 
-/// The larger of a number and a count of cells.
-fn at_least(most: usize, cells: &[u32]) -> usize
+/// The larger of two numbers.
+fn at_least(most: usize, cells: usize) -> usize
     ensures most { most ≤ result }
-    ensures cells { length cells.now ≤ result }
-    ensures least { (n : ℕ) → most ≤ n → length cells.now ≤ n → result ≤ n }
+    ensures cells { cells ≤ result }
+    ensures least { (n : ℕ) → most ≤ n → cells ≤ n → result ≤ n }
 {
-    if most < cells.len() {
-        cells.len()
-    } else {
-        most
-    }
+    if most < cells { cells } else { most }
 }
 
 /// How many cells a piece owns at most.
@@ -28,7 +24,7 @@ pub(crate) fn most_own(checked: &Checked<'_>) -> usize
     own_is_of_work();
     let mut most = 0;
     for piece in 0..checked.pieces() {
-        most = at_least(most, checked.own(piece));
+        most = at_least(most, checked.own(piece).len());
     }
     most
 }
@@ -41,7 +37,7 @@ pub(crate) fn most_fetched(checked: &Checked<'_>) -> usize
     own_is_of_work();
     let mut most = 0;
     for piece in 0..checked.pieces() {
-        most = at_least(most, checked.fetched(piece));
+        most = at_least(most, checked.fetched(piece).len());
     }
     most
 }

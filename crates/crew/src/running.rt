@@ -105,8 +105,8 @@ fn run_on<J: Run + Send + Sync, G: Gate, R: Threads + Wait + Sync>(
 /// returns.
 ///
 /// In stages what is kept takes 4 bytes for a cell, the sheet 4 for a cell of another group than the output's (for each cell where
-/// the region of the output's group is larger than the picture, or cells of other groups come after its own), and each piece 40. A
-/// board takes 8 bytes for each piece and each cell (twice as much while it opens), and 16 for each piece. Both take 2 for each
+/// the region of the output's group is larger than the picture, or cells of other groups come after its own), and each piece 32. A
+/// board takes 8 bytes for each piece and each cell (twice as much while it opens), and 8 more for each piece. Both take 2 for each
 /// sample of the picture, and 4 more where the region of the output's group is larger than the picture. For each coordinate of a
 /// group's region 16 bytes are kept. Each worker has a desk. On it lies a scratch for all groups, which takes 5 bytes for each
 /// place of the buffers, and room of 8 that is not touched unless a number does not fit its type, of each number as many as the

@@ -4,3 +4,4 @@ pub mod Claiming
 pub mod Marking
 pub mod Verdict
 pub mod Runs
+pub mod RunLists

@@ -1,6 +1,7 @@
 pub mod Work
 pub mod Crew
 pub mod Outcome
+pub mod CellRuns
 pub mod Lists
 pub mod Faults
 pub mod Claimed

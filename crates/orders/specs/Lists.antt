@@ -5,7 +5,7 @@ use Rattle.orders.specs.declared.lists.Piece.{Piece}
 
 abbrev pub own_of : Option Piece → List ℕ
 own_of None = []
-own_of (Some piece) = piece.own.items
+own_of (Some piece) = piece.own
 
 abbrev pub fetched_of : Option Piece → List ℕ
 fetched_of None = []

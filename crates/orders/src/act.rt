@@ -72,7 +72,7 @@ fn put<J: Job>(job: &J, table: &mut Table, piece: u32, values: Vec<i64>, put: us
 {
     let own = job.own(piece);
     if put < own.len() {
-        let cell = own[put];
+        let cell = own.cell(put);
         match table.cell(cell) {
             None => {
                 table.put(cell, values.get(put).copied());

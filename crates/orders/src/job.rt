@@ -4,6 +4,7 @@ ghost use Rattle.std.specs.Prelude.{◌≡◌, ◌<◌, IfOk};
 ghost use Rattle.std.specs.Option.{option_map};
 ghost use Rattle.orders.specs.Work.{Work};
 
+use crate::cell_runs::CellRuns;
 use std::alloc::{AllocError, Global};
 
 /// Accepted work: its pieces and cells, and the private run of a piece.
@@ -17,7 +18,7 @@ pub trait Job {
         ensures { result ≡ (work self.now).cells };
 
     /// The cells that the piece puts, in their order.
-    fn own(&self, piece: u32) -> &[u32]
+    fn own(&self, piece: u32) -> &CellRuns
         requires { piece < (work self.now).pieces }
         ensures { result.now ≡ (work self.now).own piece };
 

@@ -12,6 +12,7 @@ ghost use Rattle.orders.specs.Outcome.{EveryOrderIsRight, OneWorkerFinishes};
 ghost use Rattle.orders.specs.Seen.{crew_of};
 
 mod act;
+mod cell_runs;
 mod job;
 mod lists;
 mod needs;
@@ -20,6 +21,7 @@ mod state;
 mod table;
 mod worker;
 
+pub use cell_runs::{CellRun, CellRuns, run_length};
 pub use job::Job;
 pub use lists::{ListFault, Piece, first_fault};
 pub use needs::first_unserved;

@@ -4,6 +4,7 @@ ghost use Rattle.std.specs.Prelude.{◌≡◌, ◌<◌, ◌^◌, ◌↔◌, IfOk
 ghost use Rattle.orders.specs.Lists.{AreSound};
 ghost use Rattle.orders.specs.Faults.{IsFirstFault};
 
+use crate::cell_runs::CellRuns;
 use crate::needs::first_unserved;
 use crate::owners::{first_gap, owners_of};
 use std::alloc::{AllocError, Global};
@@ -11,7 +12,7 @@ use std::alloc::{AllocError, Global};
 /// The cells that a piece puts, those that it looks at, and the pieces that must be finished before.
 #[derive(Drop)]
 pub struct Piece {
-    pub own: Vec<u32>,
+    pub own: CellRuns,
     pub fetched: Vec<u32>,
     pub needs: Vec<u32>,
 }

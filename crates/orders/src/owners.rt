@@ -7,6 +7,7 @@ ghost use Rattle.orders.specs.Claimed.{IsClaimed, IsClaimedBy};
 ghost use Rattle.orders.specs.Faults.{IsFirstUnparted};
 ghost use Rattle.orders.specs.Work.{OwnIsParted};
 
+use crate::cell_runs::CellRuns;
 use crate::lists::Piece;
 use std::alloc::{AllocError, Global};
 
@@ -26,11 +27,11 @@ pub fn claim_cell(owners: &mut [Option<u32>], cell: u32, piece: u32) -> bool
 }
 
 /// The own cells of a piece.
-fn own_of(pieces: &[Piece], piece: u32) -> &[u32]
+fn own_of(pieces: &[Piece], piece: u32) -> &CellRuns
     requires { piece < length pieces.now }
     ensures { result.now ≡ own_lists pieces.now piece }
 {
-    pieces[piece as usize].own.as_slice()
+    &pieces[piece as usize].own
 }
 
 /// Makes the piece the owner of its own cells, where all are in the table and without an owner.
@@ -40,8 +41,9 @@ fn claim_piece(owners: &mut [Option<u32>], pieces: &[Piece], piece: u32) -> bool
     ensures claimed { IsTrue result → IsClaimed (own_lists pieces.now) owners.new (piece + 1) 0 }
     ensures fault { IsFalse result → OwnIsParted (piece + 1) (length owners.old) (own_lists pieces.now) → ⊥ }
 {
-    for (place, cell) in own_of(pieces, piece).iter().enumerate() {
-        if !claim_cell(owners, *cell, piece) {
+    let own = own_of(pieces, piece);
+    for place in 0..own.len() {
+        if !claim_cell(owners, own.cell(place), piece) {
             return false;
         }
     }
@@ -50,7 +52,8 @@ fn claim_piece(owners: &mut [Option<u32>], pieces: &[Piece], piece: u32) -> bool
 
 /// The owner of each cell, or the first piece with an own cell that is not in the table or stands before.
 ///
-/// `cells` is the size of the table. The time is linear in the cells and the own lists, and a cell takes 8 bytes.
+/// `cells` is the size of the table. The time is linear in the cells and the own lists, but for a logarithm of their runs, and a
+/// cell takes 8 bytes.
 pub fn owners_of(
     alloc: Global,
     cells: u32,

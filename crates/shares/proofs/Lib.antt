@@ -18,6 +18,8 @@ pub mod Needing
 pub mod Told
 pub mod Looking
 pub mod Finding
+pub mod RowRuns
+pub mod Filling
 pub mod Lines
 pub mod Empty
 pub mod Grouped

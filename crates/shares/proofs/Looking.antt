@@ -42,12 +42,12 @@ module _ (p : Plan) (c : Certificate) where
   own_set xs k old looks own less at = record {
     count = length-set xs k (with_looks old looks) ∙ own.count;
     each = λ n x there. elim (set_cases xs k n (with_looks old looks) x less there) [
-      | inl same ↦ ap (λ (y : Piece). y.own.items) (sym same.1) ∙ own.each k old at ∙ ap (own_list p c) (sym same.0)
+      | inl same ↦ ap (λ (y : Piece). y.own) (sym same.1) ∙ own.each k old at ∙ ap (own_list p c) (sym same.0)
       | inr other ↦ own.each n x other.1
     ];
   }
 
-  one_made : (k : ℕ) (old : Piece) (looks : Looks) → old.own.items ≡ own_list p c k → AreLooks p c k looks → IsMade p c k (with_looks old looks)
+  one_made : (k : ℕ) (old : Piece) (looks : Looks) → old.own ≡ own_list p c k → AreLooks p c k looks → IsMade p c k (with_looks old looks)
   one_made k old looks own are = record { own = own; fetched = are.fetched; needs = are.needs; known = are.known; pieces = are.pieces }
 
   all_set : (xs : List Piece) (k : ℕ) (old : Piece) (looks : Looks) → AreMadeBefore k xs → k < length xs → slice_get xs k ≡ Some old → AreLooks p c k looks → AreMadeBefore (k + 1) (set xs k (with_looks old looks))

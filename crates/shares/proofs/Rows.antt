@@ -177,7 +177,7 @@ rows_length f n (m ∷ rows) =
     both ∙ (let e : length (range_with_len (f m) n) + length (flat_map (λ m. range_with_len (f m) n) rows) ≡ n * (length rows + 1) = omega arith in e)
     ∙ ap (λ (x : ℕ). n * x) (let one : length rows + 1 ≡ suc (length rows) = omega arith in one)
 
-common_few : (o r : Side) → (common o r).count ≤ r.count
+pub common_few : (o r : Side) → (common o r).count ≤ r.count
 common_few o r = elim (cases_lt 0 (common o r).count) [
   | inl some ↦ (let h = part_within (common o r) r (common_lies o r).0 ((common_lies o r).1 (omega arith)) in omega arith)
   | inr none ↦ omega arith

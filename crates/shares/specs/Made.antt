@@ -29,7 +29,7 @@ use Rattle.shares.specs.Has.{AreFew, NeedsPieces, IsServed, fetched_before}
 -- the own cells of each piece are the plan's
 pub record HaveOwn (p : Plan) (c : Certificate) (xs : List Piece) : Type 0 where
   pub count : length xs ≡ length (pieces p)
-  pub each : (n : ℕ) (x : Piece) → slice_get xs n ≡ Some x → x.own.items ≡ own_list p c n
+  pub each : (n : ℕ) (x : Piece) → slice_get xs n ≡ Some x → x.own ≡ own_list p c n
 
 -- what a piece looks at is the plan's
 pub record AreLooks (p : Plan) (c : Certificate) (n : ℕ) (x : Looks) : Type 0 where
@@ -40,7 +40,7 @@ pub record AreLooks (p : Plan) (c : Certificate) (n : ℕ) (x : Looks) : Type 0 
 
 -- the lists of a piece are the plan's
 pub record IsMade (p : Plan) (c : Certificate) (n : ℕ) (x : Piece) : Type 0 where
-  pub own : x.own.items ≡ own_list p c n
+  pub own : x.own ≡ own_list p c n
   pub fetched : x.fetched.items ≡ fetched_list p n
   pub needs : x.needs.items ≡ needs_list p c n
   pub known : FetchesCells p n

@@ -1,40 +1,42 @@
 //! Whether what pieces fetch is found, run by run, among the own cells of the pieces that they need.
 
 ghost use Rattle.std.specs.Prelude.{◌≡◌, ℕ, ◌<◌, ◌≤◌, ◌+◌, ◌^◌, IsTrue, Contains, All, length, take};
+ghost use Rattle.orders.specs.CellRuns.{run_cells};
 ghost use Rattle.orders.specs.Lists.{own_lists, fetched_lists, needs_lists};
 ghost use Rattle.orders.specs.Work.{NeedsServe};
 ghost use Rattle.shares.specs.Served.{IsOwnOf};
 
-use orders::Piece;
+use orders::{CellRun, CellRuns, Piece, run_length};
 
-/// How many cells of two lists are the same, from the first on.
-fn same_cells(own: &[u32], cells: &[u32]) -> usize
+/// How many cells, from the first on, follow one another in a run of cells.
+fn length_in(run: &CellRun, cells: &[u32]) -> usize
     ensures within { result ≤ length cells.now }
-    ensures same { All (λ cell. Contains own.now cell) (take result cells.now) }
+    ensures same { All (λ cell. Contains (run_cells run.now) cell) (take result cells.now) }
 {
-    let most = own.len().min(cells.len());
-    for place in 0..most {
-        if own[place] != cells[place] {
-            return place;
-        }
+    if cells.is_empty() || cells[0] < run.first {
+        return 0;
     }
-    most
+    let passed = cells[0] - run.first;
+    if run.count <= passed {
+        return 0;
+    }
+    ((run.count - passed) as usize).min(run_length(cells))
 }
 
-/// How many cells, from the first on, follow one another in a piece's own cells, where these rise.
-fn run_in(own: &[u32], cells: &[u32]) -> usize
+/// How many cells, from the first on, follow one another in a piece's own cells, where the runs of these rise.
+fn run_in(own: &CellRuns, cells: &[u32]) -> usize
     ensures within { result ≤ length cells.now }
     ensures same { All (λ cell. Contains own.now cell) (take result cells.now) }
 {
-    if own.is_empty() || cells.is_empty() {
+    if cells.is_empty() {
         return 0;
     }
-    let cell = cells[0];
-    if cell < own[0] || own[own.len() - 1] < cell {
-        return 0;
+    let runs = own.runs();
+    let behind = runs.partition_point(|run| run.first <= cells[0]);
+    match behind.checked_sub(1) {
+        Some(place) => length_in(&runs[place], cells),
+        None => 0,
     }
-    let place = own.partition_point(|one| *one < cell);
-    same_cells(&own[place..], cells)
 }
 
 /// How many cells, from the first on, follow one another in the own cells of the piece of this number, where these rise.
@@ -43,7 +45,7 @@ fn run_of(pieces: &[Piece], piece: u32, cells: &[u32]) -> usize
     ensures own { All (λ cell. Contains (own_lists pieces.now piece) cell) (take result cells.now) }
 {
     match pieces.get(piece as usize) {
-        Some(piece) => run_in(piece.own.as_slice(), cells),
+        Some(piece) => run_in(&piece.own, cells),
         None => 0,
     }
 }

@@ -12,7 +12,7 @@ use crate::far::refused_line;
 use crate::filed::filed_needs;
 use crate::grounds::{Ground, grounds_of};
 use crate::seats::{Seat, seats_of};
-use crate::spaces::{Found, found_in};
+use crate::spaces::{FoundRuns, runs_in};
 use plan::Plan;
 use plan::certificate::{Cert, Need};
 use std::alloc::{AllocError, Global};
@@ -57,15 +57,19 @@ pub(crate) fn layout_of<'a>(
 
 /// The own cells of a piece, by their numbers, and whether its own region stays inside its group's.
 ///
-/// The time is linear in these cells.
-pub(crate) fn own_of(alloc: Global, layout: &Layout<'_>, piece: u32) -> Result<Found, AllocError>
+/// The time is linear in the rows of these cells.
+pub(crate) fn own_of(
+    alloc: Global,
+    layout: &Layout<'_>,
+    piece: u32,
+) -> Result<FoundRuns, AllocError>
     requires layout { IsLayout layout.now }
     requires piece { piece < length layout.now.seats.items }
-    ensures numbers { IfOk result (λ found. found.numbers.items ≡ own_list (plan_of layout.now.plan.now) (certificate_of layout.now.cert.now) piece) }
-    ensures within { IfOk result (λ found. All (λ n. n < length (cells (plan_of layout.now.plan.now))) found.numbers.items) }
+    ensures numbers { IfOk result (λ found. found.cells ≡ own_list (plan_of layout.now.plan.now) (certificate_of layout.now.cert.now) piece) }
+    ensures within { IfOk result (λ found. All (λ n. n < length (cells (plan_of layout.now.plan.now))) found.cells) }
     ensures whole { IfOk result (λ found. IsTrue found.whole ↔ OwnIsInside (plan_of layout.now.plan.now) (certificate_of layout.now.cert.now) piece) }
 {
     let seat = &layout.seats[piece as usize];
     let ground = &layout.grounds[seat.group];
-    found_in(alloc, &ground.cells, ground.own, &seat.at)
+    runs_in(alloc, &ground.cells, ground.own, &seat.at)
 }

@@ -51,7 +51,7 @@ fn claim_own(
         return Ok(Some(true));
     }
     let own = own_of(alloc, layout, piece)?;
-    if !claim_cells(owners, &own.numbers, piece) {
+    if !claim_cells(owners, &own.cells, piece) {
         return Ok(None);
     }
     Ok(Some(own.whole))

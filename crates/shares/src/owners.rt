@@ -13,7 +13,7 @@ ghost use Rattle.shares.specs.Owned.{AreOwners};
 
 use crate::layout::{Layout, own_of};
 use crate::taken::take_cells;
-use orders::{Piece, claim_cell};
+use orders::{CellRuns, Piece, claim_cell};
 use std::alloc::{AllocError, Global};
 
 /// The own cells of the pieces of a plan, of which no two own a cell.
@@ -28,12 +28,14 @@ pub(crate) struct Owned {
 }
 
 /// Makes a piece the owner of these cells, where all are in the table and without an owner.
-pub(crate) fn claim_cells(owners: &mut [Option<u32>], cells: &[u32], piece: u32) -> bool
+///
+/// The time is linear in the cells, but for a logarithm of their runs.
+pub(crate) fn claim_cells(owners: &mut [Option<u32>], cells: &CellRuns, piece: u32) -> bool
     ensures claimed { (own : ℕ → List ℕ) → own piece ≡ cells.now → IsClaimed own owners.old piece 0 → IsTrue result → IsClaimed own owners.new (piece + 1) 0 }
     ensures fault { (own : ℕ → List ℕ) → own piece ≡ cells.now → IsClaimed own owners.old piece 0 → IsFalse result → OwnIsParted (piece + 1) (length owners.old) own → ⊥ }
 {
-    for (place, cell) in cells.iter().enumerate() {
-        if !claim_cell(owners, *cell, piece) {
+    for place in 0..cells.len() {
+        if !claim_cell(owners, cells.cell(place), piece) {
             return false;
         }
     }
@@ -41,8 +43,8 @@ pub(crate) fn claim_cells(owners: &mut [Option<u32>], cells: &[u32], piece: u32)
 }
 
 /// Adds a piece with its own cells, and nothing fetched or needed.
-fn push_own(alloc: Global, pieces: &mut Vec<Piece>, own: Vec<u32>) -> Result<(), AllocError>
-    ensures { OnOk result ((made : Piece) × (pieces.new.items ≡ pieces.old.items ++ made ∷ []) × (made.own.items ≡ own.items)) }
+fn push_own(alloc: Global, pieces: &mut Vec<Piece>, own: CellRuns) -> Result<(), AllocError>
+    ensures { OnOk result ((made : Piece) × (pieces.new.items ≡ pieces.old.items ++ made ∷ []) × (made.own ≡ own)) }
 {
     pieces.push(Piece {
         own,
@@ -55,7 +57,7 @@ fn push_own(alloc: Global, pieces: &mut Vec<Piece>, own: Vec<u32>) -> Result<(),
 /// The own cells of each piece, whether each cell is one, and whether all own regions stay inside, or the first piece with an own
 /// cell that an earlier one owns.
 ///
-/// The time is linear in the cells and the pieces. Beside the lists a cell takes a byte.
+/// The time is linear in the cells and the pieces. Beside the lists, whose memory is that of their runs, a cell takes a byte.
 pub(crate) fn owners_of(
     alloc: Global,
     layout: &Layout<'_>,
@@ -72,12 +74,12 @@ pub(crate) fn owners_of(
     let mut inside = true;
     for piece in 0..layout.seats.len() as u32 {
         let own = own_of(alloc, layout, piece)?;
-        if !take_cells(taken.as_mut_slice(), &own.numbers) {
+        if !take_cells(taken.as_mut_slice(), &own.cells) {
             return Ok(Err(piece));
         }
-        free -= own.numbers.len() as u32;
+        free -= own.cells.len() as u32;
         inside = inside & own.whole;
-        push_own(alloc, &mut pieces, own.numbers)?;
+        push_own(alloc, &mut pieces, own.cells)?;
     }
     let whole = free == 0;
     Ok(Ok(Owned {

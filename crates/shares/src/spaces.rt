@@ -10,8 +10,9 @@ ghost use Rattle.shares.specs.Spaces.{IsSpace, HasAll, numbers_in};
 
 use crate::boxes::{Side, box_by, most_points};
 use crate::forms::Value;
-use crate::walked::shared_cells;
+use crate::walked::{shared_cells, shared_runs};
 use lin::Span1;
+use orders::CellRuns;
 use std::alloc::{AllocError, Global};
 
 /// The points of a box, numbered from `first` on, the first coordinate fastest.
@@ -141,4 +142,61 @@ pub(crate) fn found_in(
 {
     let found = found_by(alloc, space, region, at, &[])?;
     Ok(found)
+}
+
+/// Those cells of a region that a space has, by runs, and whether it has all.
+#[derive(Drop)]
+pub struct FoundRuns {
+    pub cells: CellRuns,
+    pub whole: bool,
+}
+
+/// What is found by runs of a region in a space whose sides are small.
+fn some_runs(
+    alloc: Global,
+    space: &Space,
+    region: &[Span1],
+    at: &[u64],
+) -> Result<FoundRuns, AllocError>
+    requires space { IsSpace space.now }
+    requires sides { All IsExtent space.now.sides.items }
+    requires limits { IsLimited region.now }
+    requires at { IsSmall at.now }
+    requires dimensions { length region.now ≡ length space.now.sides.items }
+    ensures numbers { IfOk result (λ found. found.cells ≡ numbers_in space.now (filter (is_in_box space.now.sides.items) (points (grid_symbols at.now) region.now))) }
+    ensures within { IfOk result (λ found. All (λ n. n < space.now.first + point_count space.now.sides.items) found.cells) }
+    ensures whole { IfOk result (λ found. IsTrue found.whole ↔ HasAll space.now (points (grid_symbols at.now) region.now)) }
+{
+    let own = box_by(alloc, region, at, &[])?;
+    let cells = shared_runs(alloc, &own, &space.sides, space.first)?;
+    let whole = cells.len() as u64 == most_points(&own);
+    Ok(FoundRuns { cells, whole })
+}
+
+/// The numbers of those points of a region at a grid point that a space has, by runs, in the region's order, the first coordinate
+/// fastest.
+///
+/// The time is linear in the rows of these points.
+pub(crate) fn runs_in(
+    alloc: Global,
+    space: &Space,
+    region: &[Span1],
+    at: &[u64],
+) -> Result<FoundRuns, AllocError>
+    requires space { IsSpace space.now }
+    requires limits { IsLimited region.now }
+    requires at { IsSmall at.now }
+    requires dimensions { length region.now ≡ length space.now.sides.items }
+    ensures numbers { IfOk result (λ found. found.cells ≡ numbers_in space.now (filter (is_in_box space.now.sides.items) (points (grid_symbols at.now) region.now))) }
+    ensures within { IfOk result (λ found. All (λ n. n < space.now.first + point_count space.now.sides.items) found.cells) }
+    ensures whole { IfOk result (λ found. IsTrue found.whole ↔ HasAll space.now (points (grid_symbols at.now) region.now)) }
+{
+    if most_points(&space.sides) == 0 {
+        let none = none_found(alloc, region, at, &[])?;
+        return Ok(FoundRuns {
+            cells: CellRuns::new(alloc),
+            whole: none.whole,
+        });
+    }
+    some_runs(alloc, space, region, at)
 }

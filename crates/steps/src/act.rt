@@ -95,7 +95,7 @@ fn put<J: Runs>(job: &J, table: &mut Table, piece: u32, put: usize, numbers: &[i
 {
     let own = job.own(piece);
     if put < own.len() {
-        let cell = own[put];
+        let cell = own.cell(put);
         match table.cell(cell) {
             None => {
                 table.put(cell, numbers.get(put).copied());

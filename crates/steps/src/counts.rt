@@ -1,20 +1,16 @@
 //! How many cells a piece fetches or owns at most, and how many seats an order needs.
 
-ghost use Rattle.std.specs.Prelude.{◌<◌, ◌≤◌, ℕ, All, length};
+ghost use Rattle.std.specs.Prelude.{◌<◌, ◌≤◌, ℕ, All};
 ghost use Rattle.steps.specs.Seats.{IsMost};
 
 use crate::runs::Runs;
 
 /// The larger of a number and a count of cells.
-fn at_least(most: usize, cells: &[u32]) -> usize
+fn at_least(most: usize, cells: usize) -> usize
     ensures most { most ≤ result }
-    ensures cells { length cells.now ≤ result }
+    ensures cells { cells ≤ result }
 {
-    if most < cells.len() {
-        cells.len()
-    } else {
-        most
-    }
+    if most < cells { cells } else { most }
 }
 
 /// How many cells a piece fetches or owns at most.
@@ -23,8 +19,8 @@ pub(crate) fn most_cells<J: Runs>(job: &J) -> usize
 {
     let mut most = 0;
     for piece in 0..job.pieces() {
-        let fetched = at_least(most, job.fetched(piece));
-        most = at_least(fetched, job.own(piece));
+        let fetched = at_least(most, job.fetched(piece).len());
+        most = at_least(fetched, job.own(piece).len());
     }
     most
 }

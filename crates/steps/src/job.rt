@@ -11,6 +11,7 @@ use crate::runs::Runs;
 use algo::Inputs;
 use checked_plan::Checked;
 use headline::laws::inputs_are_samples;
+use orders::CellRuns;
 use piece::laws::runs_are_the_work;
 use piece::places::place_of;
 use piece::run_in;
@@ -39,7 +40,7 @@ impl Runs for PlanJob<'_> {
         self.checked.cells()
     }
 
-    fn own(&self, piece: u32) -> &[u32] {
+    fn own(&self, piece: u32) -> &CellRuns {
         self.checked.own(piece as usize)
     }
 

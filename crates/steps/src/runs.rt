@@ -6,6 +6,7 @@ ghost use Rattle.steps.specs.Seats.{IsMost};
 ghost use Rattle.steps.specs.declared.desk.Desk.{Desk as PlanDesk};
 
 use crate::desk::Desk;
+use orders::CellRuns;
 use std::alloc::Global;
 
 /// Accepted work: its pieces and cells, the right value of each cell, and the private runs of its pieces, which have all their
@@ -24,7 +25,7 @@ pub(crate) trait Runs {
         ensures { result ≡ (work self.now).cells };
 
     /// The cells that the piece puts, in their order.
-    fn own(&self, piece: u32) -> &[u32]
+    fn own(&self, piece: u32) -> &CellRuns
         requires { piece < (work self.now).pieces }
         ensures { result.now ≡ (work self.now).own piece };
 

@@ -10,6 +10,7 @@ use board::{Planes, Source};
 use checked_plan::Checked;
 use checked_plan::output::OutputCells;
 use meaning::image::Shape;
+use orders::CellRuns;
 use std::alloc::{AllocError, Global};
 
 /// A checked plan, with the cell of each point of its picture.
@@ -63,7 +64,7 @@ impl<'a> Source<'a> for CheckedCells<'a> {
         self.checked.cells() as usize
     }
 
-    fn own(&self, piece: usize) -> &'a [u32] {
+    fn own(&self, piece: usize) -> &'a CellRuns {
         self.checked.own(piece)
     }
 

@@ -16,7 +16,7 @@ use std::alloc::{AllocError, Global};
 /// A board for the pieces of a checked plan on an input of its algorithm, with nothing drawn, and its first seat, which
 /// may split off 63 more.
 ///
-/// It takes 8 bytes for each piece and each cell (twice as much while it opens), 16 for each piece, whose own cells stand in
+/// It takes 8 bytes for each piece and each cell (twice as much while it opens), 8 more for each piece, whose own cells stand in
 /// the checked plan, and 2 for each sample of the picture. Where the region of the output's group is larger than the picture it
 /// also keeps the cell of each sample, 4 bytes each. The picture that `close` gives is made here.
 ///
@@ -39,7 +39,7 @@ pub fn open<'a, J: Run>(
 
 /// The cells of a checked plan on an input of its algorithm, for one worker alone. Nothing is put.
 ///
-/// It takes 4 bytes for each cell that is not kept as a sample of the picture, 16 for each piece, and for the picture what a board
+/// It takes 4 bytes for each cell that is not kept as a sample of the picture, 8 for each piece, and for the picture what a board
 /// takes for it.
 ///
 /// # Errors

@@ -6,6 +6,7 @@ ghost use Rattle.report.specs.Drawing.{height_of, width_of};
 
 use checked_plan::Checked;
 use checked_plan::output::PlanCells;
+use orders::CellRun;
 use std::alloc::{AllocError, Global};
 
 /// Columns and rows of pixels, each with a cell of the output.
@@ -41,10 +42,10 @@ fn height_of(extents: &[u32]) -> u32
     }
 }
 
-/// Makes a piece the owner of cells.
-fn give(owners: &mut [usize], cells: &[u32], piece: usize) {
-    for cell in cells {
-        if let Some(owner) = owners.get_mut(*cell as usize) {
+/// Makes a piece the owner of cells that follow one another.
+fn give(owners: &mut [usize], run: &CellRun, piece: usize) {
+    for more in 0..run.count as usize {
+        if let Some(owner) = owners.get_mut(run.first as usize + more) {
             *owner = piece;
         }
     }
@@ -54,7 +55,9 @@ fn give(owners: &mut [usize], cells: &[u32], piece: usize) {
 fn owners_of(alloc: Global, checked: &Checked<'_>) -> Result<Vec<usize>, AllocError> {
     let mut owners: Vec<usize> = vec![in alloc; 0; checked.cells() as usize]?;
     for piece in 0..checked.pieces() {
-        give(owners.as_mut_slice(), checked.own(piece), piece);
+        for run in checked.own(piece).runs() {
+            give(owners.as_mut_slice(), run, piece);
+        }
     }
     Ok(owners)
 }

@@ -1,7 +1,8 @@
-use Rattle.std.proofs.Common.{◌≡◌, ◌<◌, ◌∙◌, ℕ, [], length, get_or, arith, sym, ap, subst}
+use Rattle.std.proofs.Common.{◌≡◌, ◌<◌, ◌∙◌, ℕ, [], length, arith, sym, ap, subst, inl, inr}
 use Rattle.std.specs.Prelude.{Contains}
 use Rattle.std.proofs.Props.{props}
 use Rattle.std.proofs.Math.Logic.{∥∥₁_elim}
+use Rattle.std.proofs.lemmas.Bool.{cases_lt, false≢true}
 use Rattle.std.proofs.lemmas.List.Elements.{Contains-get_or}
 use Rattle.board.specs.Layout.{Layout, own_of, pieces_of}
 use Rattle.crew.specs.Opening.Layouts.{layout_of}
@@ -20,6 +21,8 @@ pub look-requires-clause-cell : goal.look-requires-clause-cell
 look-requires-clause-cell g c =
     let x = c.args.checked.now in
     let j : ℕ = c.piece-piece.result in
-    let own : c.own.result.now ≡ own_of g.J.Run.layout j = c.own.ensures [] ∙ sym ((own_work x []).own j) ∙ ap (λ (l : Layout). own_of l j) (sym c.requires.layout) in
-    let there = Contains-get_or c.own.result.now 0 0 (omega (arith, c.in-len1-up.len_at_least)) in
-    (j, c.comes_to_know.ensures.known c.if-not-comes_to_know.false, subst (λ xs. Contains xs (get_or c.own.result.now 0 0)) own there)
+    let cells = c.own-own.result.now in
+    let own : cells ≡ own_of g.J.Run.layout j = c.own-own.ensures [] ∙ sym ((own_work x []).own j) ∙ ap (λ (l : Layout). own_of l j) (sym c.requires.layout) in
+    let some : 0 < length cells = elim (cases_lt 0 (length cells)) [ inl less ↦ less | inr none ↦ absurd (false≢true (c.if-is_empty.ensures.1 (omega (arith, none)))) ] in
+    let there : Contains cells c.cell.result = subst (Contains cells) (sym c.cell.ensures) (Contains-get_or cells 0 0 some) in
+    (j, c.comes_to_know.ensures.known c.if-not-comes_to_know.false, subst (λ xs. Contains xs c.cell.result) own there)

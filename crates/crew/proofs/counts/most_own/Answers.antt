@@ -1,4 +1,4 @@
-use Rattle.std.proofs.Common.{[], sym, ◌∙◌}
+use Rattle.std.proofs.Common.{[], sym, ◌∙◌, arith}
 use Rattle.board.specs.Layout.{own_of, pieces_of}
 use Rattle.crew.specs.Opening.Layouts.{layout_of}
 use Rattle.crew.proofs.Most.{all_lists, one_list_more}
@@ -8,7 +8,7 @@ pub loop-piece-preserved : goal.loop-piece-preserved
 loop-piece-preserved c =
     let x = c.args.checked.now in
     one_list_more (own_of (layout_of x)) c.loop-piece.piece c.loop-piece.most c.at_least-most.result c.own.result.now
-    c.loop-piece.invariant ((c.own_is_of_work.ensures x []).own c.loop-piece.piece ∙ sym (c.own.ensures [])) c.at_least-most.ensures.most c.at_least-most.ensures.cells
+    c.loop-piece.invariant ((c.own_is_of_work.ensures x []).own c.loop-piece.piece ∙ sym (c.own.ensures [])) c.at_least-most.ensures.most (omega (arith, c.at_least-most.ensures.cells, c.len.ensures.count))
 
 pub returns : goal.returns
 returns c =

@@ -22,8 +22,8 @@ place_of-place-requires c =
     let same = c.plan-plan.ensures ∙ ap (λ (z : Checked). plan_checked z) c.checked-checked.ensures in
     subst (λ (q : Plan). c.args.piece < length (pieces q)) (sym same) c.requires.piece
 
-pub own-most-requires : goal.own-most-requires
-own-most-requires c =
+pub own-requires : goal.own-requires
+own-requires c =
     let P : Checked → Type 0 = λ z. c.args.piece < length z.pieces.items in
     subst P (sym c.checked-checked.ensures) (listed c.args.cells.now.checked.now (samples_of c.args.inputs.now) c.args.piece c.requires.piece)
 

@@ -38,7 +38,7 @@ returns-then-not-claim_cells-clause-overlap c =
     let many : length seats ≡ length (pieces p) = sym (length-map seats piece_of) ∙ ap length c.requires.layout.seats in
     let within = c.requires.piece in
     let is = of_group x c.requires.layout c.args.piece c.index.result.now within c.index.ensures n c.if-index-group.false in
-    let e : own_in p cert n c.args.piece ≡ c.deref.result.now = own_same p cert n c.args.piece is ∙ sym (c.deref.ensures.value ∙ c.in_ok-own.ensures.numbers) in
+    let e : own_in p cert n c.args.piece ≡ c.in_ok-own.own.cells = own_same p cert n c.args.piece is ∙ sym c.in_ok-own.ensures.numbers in
     let Within : List ℕ → Type 0 = λ xs. All (λ k. k < length (cells p)) xs in
     overlaps p cert n c.args.owners.now c.args.piece (length (cells p)) (omega (arith, within, many)) is c.requires.claimed c.requires.count (subst Within c.in_ok-own.ensures.numbers c.in_ok-own.ensures.within)
     (λ parted. c.claim_cells.ensures.fault (own_in p cert n) e c.requires.claimed c.if-not-claim_cells.true (subst (λ (k : ℕ). OwnIsParted (c.args.piece + 1) k (own_in p cert n)) (sym c.requires.count) parted))
@@ -50,7 +50,7 @@ returns-clause-claimed c =
     let cert : Certificate = certificate_of x.cert.now in
     let n = c.args.group in
     let is = of_group x c.requires.layout c.args.piece c.index.result.now c.requires.piece c.index.ensures n c.if-index-group.false in
-    let e : own_in p cert n c.args.piece ≡ c.deref.result.now = own_same p cert n c.args.piece is ∙ sym (c.deref.ensures.value ∙ c.in_ok-own.ensures.numbers) in
+    let e : own_in p cert n c.args.piece ≡ c.in_ok-own.own.cells = own_same p cert n c.args.piece is ∙ sym c.in_ok-own.ensures.numbers in
     c.claim_cells.ensures.claimed (own_in p cert n) e c.requires.claimed c.if-not-claim_cells.false
 
 pub returns-clause-inside : goal.returns-clause-inside

@@ -17,7 +17,7 @@ use Rattle.shares.proofs.Taking.{taken_none, taken_parted, taken_whole, taken_ga
 use Rattle.shares.proofs.owners.owners_of.Goals as goal
 
 abbrev HasOwn : (ℕ → List ℕ) → List Piece → Type 0
-HasOwn own ps = (m : ℕ) (x : Piece) → slice_get ps m ≡ Some x → x.own.items ≡ own m
+HasOwn own ps = (m : ℕ) (x : Piece) → slice_get ps m ≡ Some x → x.own ≡ own m
 
 pub loop-piece-init : goal.loop-piece-init
 loop-piece-init c =
@@ -43,7 +43,7 @@ returns-then-not-take_cells-clause-overlap c =
     let ready = c.requires.layout in
     let less : n < length c.args.layout.now.seats.items = omega (arith, c.loop-piece-test.true, c.len-piece-end.ensures, c.args.layout.now.seats.ok.0) in
     let many : length c.args.layout.now.seats.items ≡ length (pieces p) = sym (length-map c.args.layout.now.seats.items piece_of) ∙ ap length ready.seats in
-    let e : own n ≡ c.deref.result.now = sym (c.deref.ensures.value ∙ c.in_ok-own.ensures.numbers) in
+    let e : own n ≡ c.in_ok-own.own.cells = sym c.in_ok-own.ensures.numbers in
     let before = subst (λ (bs : List Bool). AreTaken own bs n 0) (sym c.as_mut_slice.ensures.value) c.loop-piece.invariant.taken in
     let Parted : ℕ → Type 0 = λ k. OwnIsParted (n + 1) k own in
     let Within : List ℕ → Type 0 = λ xs. All (λ k. k < length (cells p)) xs in
@@ -63,26 +63,24 @@ loop-piece-preserved c =
     let value = c.as_mut_slice.ensures.value in
     let same : length new ≡ length taken = c.take_cells.auto.taken ∙ ap length value in
     let is : take c.loop-piece.taken.len (new ++ drop (length new) taken) ≡ new = written c.loop-piece.taken.len new taken same c.loop-piece.taken.ok.0 in
-    let e : own n ≡ c.deref.result.now = sym (c.deref.ensures.value ∙ c.in_ok-own.ensures.numbers) in
+    let e : own n ≡ c.in_ok-own.own.cells = sym c.in_ok-own.ensures.numbers in
     let before = subst (λ (bs : List Bool). AreTaken own bs n 0) (sym value) c.loop-piece.invariant.taken in
     let made = c.in_ok-push_own.ensures in
     let old = c.loop-piece.pieces.items in
     let taking = c.if-not-take_cells.false in
     let fell = c.take_cells.ensures.count taking in
     let was : free_count c.as_mut_slice.result.now ≡ c.loop-piece.free = ap free_count value ∙ c.loop-piece.invariant.free in
-    let given = ap length c.deref.ensures.value in
-    let len = c.len-in-loop-piece.ensures in
-    let ok = c.in_ok-own.own.numbers.ok.0 in
+    let len = c.len-in-loop-piece.ensures.count in
     let more = length-append old (made.0 ∷ []) in
     let long = ap length made.1 in
     let count = c.loop-piece.invariant.count in
-    let here : made.0.own.items ≡ own (length old) = made.2 ∙ c.in_ok-own.ensures.numbers ∙ ap own (sym count) in
+    let here : made.0.own ≡ own (length old) = made.2 ∙ c.in_ok-own.ensures.numbers ∙ ap own (sym count) in
     record {
       taken = subst (λ (bs : List Bool). AreTaken own bs (n + 1) 0) (sym is) (c.take_cells.ensures.taken own n e before taking);
       long = ap length is ∙ same ∙ c.loop-piece.invariant.long;
-      free = ap free_count is ∙ omega (arith, fell, was, given, len, ok);
+      free = ap free_count is ∙ omega (arith, fell, was, len);
       count = omega (arith, more, long, count);
-      own = subst (HasOwn own) (sym made.1) (push_each (λ m x. x.own.items ≡ own m) old made.0 c.loop-piece.invariant.own here);
+      own = subst (HasOwn own) (sym made.1) (push_each (λ m x. x.own ≡ own m) old made.0 c.loop-piece.invariant.own here);
       inside = λ yes i less.
           let both = both_true c.loop-piece.inside c.in_ok-own.own.whole yes in
           elim (cases_lt i n) [

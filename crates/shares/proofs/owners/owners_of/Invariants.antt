@@ -13,6 +13,6 @@ invariant-loop-piece l = record {
   long : length l.taken.items ≡ l.count;
   free : free_count l.taken.items ≡ l.free;
   count : length l.pieces.items ≡ l.piece;
-  own : (n : ℕ) (x : Piece) → slice_get l.pieces.items n ≡ Some x → x.own.items ≡ own_list (plan_of l.layout.plan.now) (certificate_of l.layout.cert.now) n;
+  own : (n : ℕ) (x : Piece) → slice_get l.pieces.items n ≡ Some x → x.own ≡ own_list (plan_of l.layout.plan.now) (certificate_of l.layout.cert.now) n;
   inside : IsTrue l.inside → (i : ℕ) → i < l.piece → OwnIsInside (plan_of l.layout.plan.now) (certificate_of l.layout.cert.now) i;
 }

@@ -1,38 +1,49 @@
-use Rattle.std.proofs.Common.{◌≡◌, ◌∙◌, ◌+◌, ◌<◌, ℕ, List, Bool, true, false, ap, sym, subst, refl, arith, length, get_or, set, Some}
-use Rattle.std.specs.Prelude.{slice_get}
-use Rattle.std.proofs.lemmas.Bool.{false≢true}
+use Rattle.std.proofs.Common.{◌≡◌, ◌∙◌, ◌+◌, ◌≤◌, ◌<◌, ℕ, List, ap, sym, subst, refl, arith, length, take, get_or}
+use Rattle.std.proofs.lemmas.List.{take_all}
 use Rattle.orders.specs.Work.{OwnIsParted}
-use Rattle.shares.specs.Taken.{AreTaken, free_count}
-use Rattle.shares.proofs.Taking.{taken_more, taken_next, taken_clash, free_less}
+use Rattle.orders.specs.declared.cell_runs.CellRun.{CellRun}
+use Rattle.orders.specs.CellRuns.{cells_of}
+use Rattle.shares.specs.Taken.{AreTaken, HasRun}
+use Rattle.shares.proofs.Taking.{taken_next}
+use Rattle.shares.proofs.RowRuns.{cells_more, run_stands}
 use Rattle.shares.proofs.taken.take_cells.Goals as goal
 
-pub loop-cell-preserved : goal.loop-cell-preserved
-loop-cell-preserved c =
-    let place = c.loop-cell.cell-index in
-    let old = c.loop-cell.taken in
-    let cell = get_or c.args.cells.now place 0 in
-    let free : slice_get old cell ≡ Some false = c.if-not-take_cell.ensures.free.0 refl in
-    let new : c.take_cell.new.taken ≡ set old cell true = c.if-not-take_cell.ensures.taken in
-    let less = free_less old cell free in
-    let same : free_count c.take_cell.new.taken ≡ free_count (set old cell true) = ap free_count new in
-    let before = c.loop-cell.invariant.count in
+abbrev none : CellRun
+none = record { first = 0; count = 0; before = 0 }
+
+pub loop-run-preserved : goal.loop-run-preserved
+loop-run-preserved c =
+    let runs = c.runs-run-items.result.now in
+    let k = c.loop-run.run-index in
+    let before = length (cells_of (take k runs)) in
+    let more = cells_more runs k none c.loop-run-test.true in
+    let fell = c.take_run.ensures.count c.if-not-take_run.false in
+    let count = c.loop-run.invariant.count in
     record {
       taken = λ own n e start.
-          let long = ap length e in
-          subst (λ (bs : List Bool). AreTaken own bs n (place + 1)) (sym new)
-          (taken_more own old n place cell (c.loop-cell.invariant.taken own n e start) (omega (arith, c.loop-cell-test.true, long)) (ap (λ (xs : List ℕ). get_or xs place 0) (sym e)) free);
-      count = omega (arith, less, same, before);
+          let has : HasRun (own n) before (get_or runs k none) = subst (λ (xs : List ℕ). HasRun xs before (get_or runs k none)) (c.runs-run-items.ensures.cells ∙ sym e) (run_stands runs k none c.loop-run-test.true) in
+          subst (AreTaken own c.take_run.new.taken n) (sym more) (c.take_run.ensures.taken own n before has (c.loop-run.invariant.taken own n e start) c.if-not-take_run.false);
+      count = omega (arith, more, fell, count);
     }
 
 pub returns-clause-taken : goal.returns-clause-taken
 returns-clause-taken c own n e start _ =
-    let long = ap length e in
-    let end = c.loop-cell.auto.cell-index-end in
-    taken_next own c.loop-cell.taken n c.loop-cell.cell-index (c.loop-cell.invariant.taken own n e start) (omega (arith, c.loop-cell-test.false, end, long))
+    let runs = c.runs-run-items.result.now in
+    let end : length runs ≤ c.loop-run.run-index = c.loop-run-test.false in
+    let all = ap (λ (rs : List CellRun). length (cells_of rs)) (take_all c.loop-run.run-index runs end) ∙ ap length (c.runs-run-items.ensures.cells ∙ sym e) in
+    taken_next own c.loop-run.taken n (length (cells_of (take c.loop-run.run-index runs))) (c.loop-run.invariant.taken own n e start) all
 
-pub returns-then-not-take_cell-clause-fault : goal.returns-then-not-take_cell-clause-fault
-returns-then-not-take_cell-clause-fault c own n e start _ parted =
-    let place = c.loop-cell.cell-index in
-    let long = ap length e in
-    taken_clash own c.loop-cell.taken n place (get_or c.args.cells.now place 0) (c.loop-cell.invariant.taken own n e start) (omega (arith, c.loop-cell-test.true, long)) (ap (λ (xs : List ℕ). get_or xs place 0) (sym e))
-    (λ free. false≢true (c.if-not-take_cell.ensures.free.1 free)) (subst (λ (k : ℕ). OwnIsParted (n + 1) k own) (sym c.loop-cell.auto.taken) parted)
+pub returns-clause-count : goal.returns-clause-count
+returns-clause-count c _ =
+    let runs = c.runs-run-items.result.now in
+    let end : length runs ≤ c.loop-run.run-index = c.loop-run-test.false in
+    let all = ap (λ (rs : List CellRun). length (cells_of rs)) (take_all c.loop-run.run-index runs end) ∙ ap length c.runs-run-items.ensures.cells in
+    let count = c.loop-run.invariant.count in omega (arith, all, count)
+
+pub returns-then-not-take_run-clause-fault : goal.returns-then-not-take_run-clause-fault
+returns-then-not-take_run-clause-fault c own n e start _ parted =
+    let runs = c.runs-run-items.result.now in
+    let k = c.loop-run.run-index in
+    let before = length (cells_of (take k runs)) in
+    let has : HasRun (own n) before (get_or runs k none) = subst (λ (xs : List ℕ). HasRun xs before (get_or runs k none)) (c.runs-run-items.ensures.cells ∙ sym e) (run_stands runs k none c.loop-run-test.true) in
+    c.take_run.ensures.fault own n before has (c.loop-run.invariant.taken own n e start) c.if-not-take_run.true (subst (λ (m : ℕ). OwnIsParted (n + 1) m own) (sym c.loop-run.auto.taken) parted)

@@ -1,9 +1,10 @@
-use Rattle.std.proofs.Common.{◌≡◌, ◌+◌, ℕ, List}
+use Rattle.std.proofs.Common.{◌≡◌, ◌+◌, ℕ, List, length, take}
+use Rattle.orders.specs.CellRuns.{cells_of}
 use Rattle.shares.specs.Taken.{AreTaken, free_count}
 use Rattle.shares.proofs.taken.take_cells.Given as goal
 
-abbrev pub invariant-loop-cell : goal.invariant-loop-cell
-invariant-loop-cell l = record {
-  taken : (own : ℕ → List ℕ) (n : ℕ) → own n ≡ l.cells → AreTaken own l.initial.taken n 0 → AreTaken own l.taken n l.cell-index;
-  count : free_count l.taken + l.cell-index ≡ free_count l.initial.taken;
+abbrev pub invariant-loop-run : goal.invariant-loop-run
+invariant-loop-run l = record {
+  taken : (own : ℕ → List ℕ) (n : ℕ) → own n ≡ l.cells → AreTaken own l.initial.taken n 0 → AreTaken own l.taken n (length (cells_of (take l.run-index l.run-items)));
+  count : free_count l.taken + length (cells_of (take l.run-index l.run-items)) ≡ free_count l.initial.taken;
 }

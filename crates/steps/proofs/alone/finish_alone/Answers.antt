@@ -8,10 +8,10 @@ pub loop-piece-preserved : goal.loop-piece-preserved
 loop-piece-preserved g c =
     let work = g.J.Runs.work c.args.job.now in
     let piece = c.loop-piece.piece in
-    let steps : ℕ = 2 + length c.needs-asked.result.now + length c.fetched-looked.result.now + length c.own-put.result.now in
+    let steps : ℕ = 2 + length c.needs-asked.result.now + length c.fetched-looked.result.now + c.len-put.result in
     let asked : length c.needs-asked.result.now ≡ length (work.needs piece) = ap length c.needs-asked.ensures in
     let looked : length c.fetched-looked.result.now ≡ length (work.fetched piece) = ap length c.fetched-looked.ensures in
-    let put : length c.own-put.result.now ≡ length (work.own piece) = ap length c.own-put.ensures in
+    let put : c.len-put.result ≡ length (work.own piece) = c.len-put.ensures.count ∙ ap length c.own.ensures in
     let sum : steps_before work piece + steps ≡ steps_before work (piece + 1) = (let next = before_next work piece in omega (arith, next, asked, looked, put)) in
     record {
       steps = c.take_steps.ensures.steps

@@ -8,4 +8,4 @@ use Rattle.checked_plan.proofs.checked.Checked.own.Goals as goal
 pub returns : goal.returns
 returns c = λ samples.
     let there = listed c.args.self.now.pieces.items c.args.piece c.index.result.now c.requires c.index.ensures in
-    ∥∥₁_elim c.args.self.now.lists (search props) (λ lists. c.as_slice.ensures.value ∙ ap own_of there ∙ (lists samples).own c.args.piece)
+    ∥∥₁_elim c.args.self.now.lists (search props) (λ lists. ap own_of there ∙ (lists samples).own c.args.piece)
