@@ -6,7 +6,7 @@ use Rattle.std.specs.List.{AllByRecursion, list_all}
 use Rattle.std.specs.Int.RustNames.{unsigned_abs}
 use Rattle.std.proofs.lemmas.Bool.Decides.{nat_tests}
 use Rattle.std.proofs.lemmas.Int.{ints}
-use Rattle.std.proofs.Math.Nat.{mul-suc, mul-le-mul_left, mul-le-mul_right}
+use Rattle.std.proofs.Math.Nat.{mul-suc}
 use Rattle.std.proofs.lemmas.List.{length-map}
 use Rattle.numeric.specs.declared.ty.Ty.TheVariants.{I32}
 use Rattle.tree.specs.Term.{Term, Terms, End, More}
@@ -71,7 +71,7 @@ use Rattle.completeness.proofs.Halves.{AreOthers, inner_outer}
 use Rattle.completeness.proofs.Lanes.{AreOnce}
 use Rattle.completeness.proofs.PureNests.{all_in, all_from, all_get}
 use Rattle.completeness.proofs.UpdateTurns.{all_mapped, all_filtered}
-use Rattle.completeness.proofs.Boxes.{IsCapped, IsBox, AreBoxes, IsPlain, ArePlain, weight_of, weight_at, weight, both_under, IsLight, IsLightSpan, span_light}
+use Rattle.completeness.proofs.Boxes.{IsCapped, IsBox, AreBoxes, IsPlain, ArePlain, weight_of, weight_at, weight, IsLight, IsLightSpan, span_light}
 use Rattle.completeness.proofs.FirstNumbers.{first_of, firsts, number_at, index_near}
 use Rattle.completeness.proofs.RangedLefts.{left_got}
 use Rattle.completeness.proofs.NearBoxes.{IsFew, IsBoxTurn, IsTurn, box_turn, plain_box, plain_weight, turn_there, all_bound, steps_boxes, steps_weights, regions_few}
@@ -108,14 +108,6 @@ module _ (z : ℤ) (s c m : ℕ) where
 
       two : (f : ℤ) → z +ℤ (pos 1 *ℤ pos 0 +ℤ (f *ℤ pos 0 +ℤ pos 0)) ≡ z
       two f = omega (arith, ints)
-
-  pair_light : (scope : List Binding) → c ≤ 1024 → weight_at scope s ≤ 8192 → weight_at scope m ≤ 2 ^ 32 → weight scope (pair z s (pos c) m).terms ≤ 2 ^ 38 + 2 ^ 37 + 2 ^ 36
-  pair_light scope few first second =
-      let times : weight_at scope s * unsigned_abs (pos c) ≤ 8192 * 1024 = both_times (weight_at scope s) c first few in
-      pair_either (λ ts. weight scope ts ≤ 2 ^ 38 + 2 ^ 37 + 2 ^ 36) (omega (arith, times, second)) (omega (arith, times, second))
-    where
-      both_times : (p q : ℕ) → p ≤ 8192 → q ≤ 1024 → p * q ≤ 8192 * 1024
-      both_times p q h k = (let one = mul-le-mul_left p k in let two = mul-le-mul_right 1024 h in omega (arith, one, two))
 
 -- what is so of no form, and of each that stands for a name, is so of those of a nest's coordinates
 module _ (Q : Option Form → Type 0) (none : Q None) (ks : List Known) (each : AllByRecursion (λ k. Q (Some k.form)) ks) where
@@ -494,17 +486,6 @@ module _ (a : Algorithm) (sch : Schedule) (l : Lowered) (well : IsAlgorithm a) (
         capped_under x most le c = subst (IsUnder most) (sym c.is) (omega (arith, le))
 
         -- how far the symbols go
-        all_weights : (n : ℕ) → weight_at around_store n ≤ 2 ^ 32
-        all_weights =
-            steps_weights q.limits q.next ts (grid_scope k.grid) around_store (2 ^ 32) steps_here
-            (grid_all (λ b. weight_of (Some b) ≤ 2 ^ 32) (λ n c. let most = count_weight n c in omega (arith, most)))
-            (λ j t e. by_limit (IsUnder (2 ^ 32)) j t e
-            (λ none. let turn = turn_here j t e in plain_weight q.limits (q.next + j) t (2 ^ 32) (first_far t.low turn.from turn.to) turn.last none)
-            (λ c. capped_under (span t.low t.last (q.limits (q.next + j))) (2 ^ 32) (omega arith) c))
-          where
-            first_far : (z : ℤ) → negsuc 2147483647 ≤ℤ z → z ≤ℤ pos 2147483647 → unsigned_abs z ≤ 2 ^ 32
-            first_far z h k = omega (arith, ints, h, k)
-
         near_weights : IsNearRegion h.extents → (n : ℕ) → weight_at (bind_steps (head_scope k) w.steps) n ≤ 73728
         near_weights near =
             subst (λ (scope : List Binding). (n : ℕ) → weight_at (bind_steps scope w.steps) n ≤ 73728) (sym over_head)
@@ -521,7 +502,7 @@ module _ (a : Algorithm) (sch : Schedule) (l : Lowered) (well : IsAlgorithm a) (
             near_turn : (j : ℕ) (t : Turning) → slice_get ts j ≡ Some t → IsBoxTurn t
             near_turn j t e = all_get IsBoxTurn ts j t near_turns e
 
-        -- ---- positions at the first numbers, and how far they go
+        -- ---- positions at the first numbers
 
         abbrev v : ℕ → ℤ
         v = firsts around_store
@@ -534,22 +515,18 @@ module _ (a : Algorithm) (sch : Schedule) (l : Lowered) (well : IsAlgorithm a) (
             ap (λ (scope : List Binding). first_of (slice_get scope (q.next + j))) (sym steps_here)
             ∙ ap first_of (turn_there q.limits q.next ts (grid_scope k.grid) (omega (arith, long, many, least)) j t e)
 
-        -- a form is a number of 32 bits at the first numbers, and light
-        record IsGood (f : Form) : Type 0 where
-          index : IsIndex (form_value f v)
-          light : IsLightList around_store f.terms
+        -- a form is a number of 32 bits at the first numbers
+        abbrev IsGood : Form → Type 0
+        IsGood f = IsIndex (form_value f v)
 
-        good_by : (f : Form) (z : ℤ) → form_value f v ≡ z → negsuc 2147483647 ≤ℤ z → z ≤ℤ pos 2147483647 → IsLightList around_store f.terms → IsGood f
-        good_by f z is from to light = record { index = subst IsIndex (sym is) (record { from = omega (arith, ints, from); to = omega (arith, ints, to) }); light = light }
+        good_by : (f : Form) (z : ℤ) → form_value f v ≡ z → negsuc 2147483647 ≤ℤ z → z ≤ℤ pos 2147483647 → IsGood f
+        good_by f z is from to = subst IsIndex (sym is) (record { from = omega (arith, ints, from); to = omega (arith, ints, to) })
 
         counted_value : (z : ℤ) (s : ℕ) (y : ℤ) → v s ≡ y → form_value (counted_from z s) v ≡ z +ℤ y
         counted_value z s y is = (λ j. z +ℤ (pos 1 *ℤ is j +ℤ pos 0)) ∙ once_more y
           where
             once_more : (y : ℤ) → z +ℤ (pos 1 *ℤ y +ℤ pos 0) ≡ z +ℤ y
             once_more y = omega (arith, ints)
-
-        counted_light : (z : ℤ) (s : ℕ) → IsLightList around_store (counted_from z s).terms
-        counted_light z s = (let most = all_weights s in omega (arith, most))
 
         -- a form over the grid, or a loop's symbol
         leaf_good : (y : List ℕ) (f : Form) → Leaf cuts others once rs ls untailed over_grid q.next ts y f → IsGood f
@@ -558,14 +535,14 @@ module _ (a : Algorithm) (sch : Schedule) (l : Lowered) (well : IsAlgorithm a) (
             let o = (nests_of.grids a sch l well legal small kept all groups n first line g p claims needs at there h lined placed alone_here laid split_alone keeps filled y f over).3 in
             let few_here = subst (λ (x : List ℕ). AreFewNumbers (numbers_named rs x)) o.2 (loop_few o.0 o.1) in
             let value : form_value (counted_from (low y) r.0) v ≡ low y = counted_value (low y) r.0 (pos 0) (ap first_of r.2) ∙ none_more (low y) in
-            subst IsGood (sym r.1) (good_by (counted_from (low y) r.0) (low y) value few_here.from few_here.to (counted_light (low y) r.0))
+            subst IsGood (sym r.1) (good_by (counted_from (low y) r.0) (low y) value few_here.from few_here.to)
           where
             none_more : (z : ℤ) → z +ℤ pos 0 ≡ z
             none_more z = omega (arith, ints)
         leaf_good y f (inr (i, t, there_t, name, is)) =
             let turn = turn_here i t there_t in
             let value : form_value (counted_from (pos 0) (q.next + i)) v ≡ t.low = counted_value (pos 0) (q.next + i) t.low (turn_first i t there_t) ∙ from_zero t.low in
-            subst IsGood (sym is) (good_by (counted_from (pos 0) (q.next + i)) t.low value turn.from turn.to (counted_light (pos 0) (q.next + i)))
+            subst IsGood (sym is) (good_by (counted_from (pos 0) (q.next + i)) t.low value turn.from turn.to)
           where
             from_zero : (z : ℤ) → pos 0 +ℤ z ≡ z
             from_zero z = omega (arith, ints)
@@ -596,12 +573,7 @@ module _ (a : Algorithm) (sch : Schedule) (l : Lowered) (well : IsAlgorithm a) (
                 let sum_so = ap (combined u.start (pos 1)) (sym inner_form) ∙ u.sum in
                 let form = pair_is (low u.split.whole) u.split.factor o.0 (fits u.split u.there).some (q.next + i) u.start f (apart i t there_t name o.0 o.3) begins_so sum_so in
                 let value = pair_value (low u.split.whole) o.0 u.split.factor (q.next + i) v (ap first_of o.2) (turn_first i t there_t ∙ begins) in
-                let blocks = few_blocks u.split u.there in
-                let outer_weight : weight_at around_store o.0 ≤ 8192 =
-                subst (λ (b : Option Binding). weight_of b ≤ 8192) (sym o.2)
-                (both_under 0 (top (numbers_named rs u.split.whole).count u.split.factor) 8192 (omega arith) (omega (arith, blocks))) in
-                let light = pair_light (low u.split.whole) o.0 u.split.factor (q.next + i) around_store (fits u.split u.there).few outer_weight (all_weights (q.next + i)) in
-                subst IsGood (sym form.0) (good_by (pair (low u.split.whole) o.0 (pos u.split.factor) (q.next + i)) (low u.split.whole) value whole.from whole.to light)
+                subst IsGood (sym form.0) (good_by (pair (low u.split.whole) o.0 (pos u.split.factor) (q.next + i)) (low u.split.whole) value whole.from whole.to)
               where
                 apart : (i : ℕ) (t : Turning) → slice_get ts i ≡ Some t → t.name ≡ u.split.inner → (s : ℕ) →
                     (s < q.next) ⊎ ((o : ℕ) × (x : Turning) × (slice_get ts o ≡ Some x) × (x.name ≡ u.split.outer) × (s ≡ q.next + o)) → (s == q.next + i) ≡ false
@@ -623,21 +595,19 @@ module _ (a : Algorithm) (sch : Schedule) (l : Lowered) (well : IsAlgorithm a) (
             of [] r = tt
             of (x ∷ ks) r = (right_good x.name x.form r.0, of ks r.1)
 
-        -- what is so of none and of each such form is so of each coordinate
-        coordinates_all : (Q : Option Form → Type 0) → Q None → ((f : Form) → IsGood f → Q (Some f)) → AllByRecursion Q w.at
-        coordinates_all Q none each =
-            let known_so = all_weaker (λ k. IsGood k.form) (λ k. Q (Some k.form)) (λ k h. each k.form h) q.known known_good in
-            subst (AllByRecursion Q) (sym q.forms)
-            (all-append Q (variables_at q.body 0 xs q.known) (ranges_at q.body.ranges q.known) (variables_so Q none q.known known_so q.body 0 xs) (ranges_so Q none q.known known_so q.body.ranges))
+        -- so is each coordinate
+        abbrev IsGoodIf : Option Form → Type 0
+        IsGoodIf o = IsIndex (number_at v o)
 
         all_index : AllByRecursion IsIndex (map (number_at v) w.at)
-        all_index = all_mapped (number_at v) IsIndex w.at (coordinates_all (λ o. IsIndex (number_at v o)) (index_near (pos 0) (omega arith)) (λ f h. h.index))
-
-        all_light : AllByRecursion (IsLightIf around_store) w.at
-        all_light = coordinates_all (IsLightIf around_store) tt (λ f h. h.light)
-
-        light_behind : AllByRecursion (IsLightIf (bind_steps (head_scope k) w.steps)) w.at
-        light_behind = subst (λ (scope : List Binding). AllByRecursion (IsLightIf (bind_steps scope w.steps)) w.at) (sym over_head) all_light
+        all_index =
+            all_mapped (number_at v) IsIndex w.at
+            (subst (AllByRecursion IsGoodIf) (sym q.forms)
+            (all-append IsGoodIf (variables_at q.body 0 xs q.known) (ranges_at q.body.ranges q.known) (variables_so IsGoodIf none q.known known_good q.body 0 xs)
+            (ranges_so IsGoodIf none q.known known_good q.body.ranges)))
+          where
+            none : IsIndex (pos 0)
+            none = index_near (pos 0) (omega arith)
 
         calls_light : IsNearRegion h.extents → (f : FormulaText) → slice_get fs d ≡ Some f → (r : AroundText) → around a g (head_scope k) w f d ≡ Some r → AreCallsLight a r (calls_in f)
         calls_light near f e = few_calls_light a g (head_scope k) w f d (near_weights near) (inl plain_here)

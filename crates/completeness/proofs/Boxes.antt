@@ -175,17 +175,6 @@ weight_of (Some (LetMax fs)) = 0
 spread : (w p q s : ℕ) → p ≤ q + s → w * p ≤ w * q + w * s
 spread w p q s h = (let most = mul-le-mul_left w h in let parts = mul-add w q s in omega (arith, most, parts))
 
--- a product of a factor and a number of a loop
-pub product_near : (c e : ℤ) → unsigned_abs e ≤ 73728 → unsigned_abs (c *ℤ e) ≤ 73728 * unsigned_abs c
-product_near c e near = (let is = unsigned_abs-mul c e in by (unsigned_abs c) (unsigned_abs e) near is)
-  where
-    times : (m n : ℕ) → n ≤ 73728 → m * n ≤ 73728 * m
-    times zero n h = omega arith
-    times (suc m) n h = (let rest = times m n h in omega (arith, h, rest))
-
-    by : (m n : ℕ) → n ≤ 73728 → unsigned_abs (c *ℤ e) ≡ m * n → unsigned_abs (c *ℤ e) ≤ 73728 * m
-    by m n h is = (let most = times m n h in omega (arith, is, most))
-
 module _ (scope : List Binding) where
   abbrev pub weight_at : ℕ → ℕ
   weight_at n = weight_of (slice_get scope n)

@@ -1,13 +1,13 @@
 -- All that a line `store` owes is owed at that line.
 use Rattle.std.proofs.Common.{◌≡◌, ℕ, zero, suc, Bool, List, [], ◌∷◌, ◌++◌, map, take, drop, refl}
-use Rattle.std.specs.Prelude.{filter, flat_map, if◌then◌else◌}
+use Rattle.std.specs.Prelude.{filter, flat_map}
 use Rattle.std.specs.List.{AllByRecursion}
 use Rattle.tree.specs.Term.{Term, Number, Name, Call, Minus, Binary, Clamp, Cast, Choice, Terms, End, More, Test, Compares, Fails, Both, Either}
 use Rattle.lin.specs.declared.span.Span1.{Span1}
 use Rattle.plan.specs.Plan.{Store, Coordinate, Index, At, Found}
 use Rattle.soundness.specs.Origins.{Outline}
 use Rattle.plan.specs.Semantics.Run.{Source, Input, ByClaim, Unknown}
-use Rattle.soundness.specs.Obligations.{Known, Rules, Obligation, OutOfBuffer, NotClaimed, NotTheDefinition, Named, Inside, Updating, obligation, places_of, seated, region_of, serves, is_begun}
+use Rattle.soundness.specs.Obligations.{Known, Rules, Obligation, NotClaimed, NotTheDefinition, Inside, Updating, obligation, region_of, serves}
 use Rattle.soundness.specs.Obligations.{load_obligations, intervals, loads, loads_of_test, loads_of_all, index_loads, coordinate_loads, claimed, variable_span, target_span, may_load, met, obligations}
 use Rattle.bounds.proofs.ListSound.{all-append}
 

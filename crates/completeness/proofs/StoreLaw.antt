@@ -29,7 +29,8 @@ store_lines_owed a s l well legal small regions groups all free told grids few n
     let rules = rules_of a p c n in
     let x = from_map group_of l.plan.groups.items n g at in
     let h = tailed_held a s l well legal small (regions all).0 all groups n x.0 x.1 u stands tailed.once tailed.inners fs defined r laid set simple in
-    let at_group = group_at a s l well legal small (regions all).0 all groups told free grids few n x.0 x.1 u stands tailed.once tailed.inners (inside_so u.placed.loops u.placed.cuts tailed.inside) fs defined r laid
+    let at_group = group_at a s l well legal small (regions all).0 all groups told free grids few n x.0 x.1 u stands tailed.once tailed.inners
+    (inside_so u.placed.loops u.placed.cuts tailed.inside) fs defined r laid
     h.1 h.2 h.0 in
     let shown = subst (λ (y : Group). StoresAreShown a s l well legal small (regions all).0 all groups told free grids few n y) (sym x.2) (at_group.all_shown early) in
     let names = names_shown a s l well legal small regions groups all told n g at free in

@@ -1,8 +1,7 @@
 -- A dimension of which no loop is parallel belongs to each piece whole: its buffer and the claims on it have all its numbers, and those behind them that its blocks reach.
-use Rattle.std.proofs.Common.{◌≡◌, ℕ, zero, suc, ◌+◌, ◌*◌, ◌<◌, ◌≤◌, Bool, true, false, ◌||◌, not, List, [], ◌∷◌, Some, None, refl, sym, ap, ◌∙◌, subst, inl, inr, arith}
-use Rattle.std.specs.Prelude.{ℤ, ◌-◌, ◌≤ℤ◌, pos, ◌+ℤ◌, ◌-ℤ◌, ◌%◌, ◌==◌, if◌then◌else◌, slice_get}
+use Rattle.std.proofs.Common.{◌≡◌, ℕ, zero, suc, ◌+◌, ◌*◌, ◌<◌, ◌≤◌, Bool, true, false, List, [], ◌∷◌, Some, None, refl, sym, ap, ◌∙◌, subst, inl, inr, arith}
+use Rattle.std.specs.Prelude.{ℤ, ◌-◌, ◌≤ℤ◌, pos, ◌+ℤ◌, ◌-ℤ◌, if◌then◌else◌, slice_get}
 use Rattle.std.specs.List.{AllByRecursion}
-use Rattle.std.proofs.lemmas.Bool.Decides.{nat_tests}
 use Rattle.std.proofs.lemmas.Int.{ints}
 use Rattle.lin.specs.Forms.{number}
 use Rattle.lin.specs.declared.span.Span1.{Span1}
@@ -73,14 +72,6 @@ dimension_at dim d (y ∷ xs) h zero x at =
     let is : y ≡ x = cc at in
     ap dim (sym is) ∙ h.0 ∙ none
 dimension_at dim d (y ∷ xs) h (suc j) x at = (let next : (d + 1) + j ≡ d + suc j = omega arith in dimension_at dim (d + 1) xs h.1 j x at ∙ next)
-
-no_rest : (n m : ℕ) → ((n == 0) || not (m % n == 0)) ≡ false → m % n ≡ 0
-no_rest n m q = of (n == 0) (m % n == 0) refl q
-  where
-    of : (a b : Bool) → (m % n == 0) ≡ b → (a || not b) ≡ false → m % n ≡ 0
-    of true b k r = absurd (cc r)
-    of false false k r = absurd (cc r)
-    of false true k r = grind (arith, nat_tests, k)
 
 -- ---- groups
 

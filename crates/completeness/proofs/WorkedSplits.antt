@@ -37,9 +37,6 @@ region_in _ = []
 region_first : region_in (slice_get (laid_functions two_functions gs) 0) ≡ points
 region_first = refl
 
-region_second : region_in (slice_get (laid_functions two_functions gs) 1) ≡ points
-region_second = refl
-
 near_points : IsNearRegion points
 near_points = (omega (arith, ints), (omega (arith, ints), tt))
 
