@@ -215,7 +215,7 @@ module _ (a : Algorithm) (u : StoredText) (outer : List Binding) (w : NestText) 
       subst (λ (t : AroundText). IsLightSpan t.scope x) is (kept_light scope x kept_here)
 
 -- where no symbol goes far each index is light
-few_calls_light : (a : Algorithm) (u : StoredText) (outer : List Binding) (w : NestText) (f : FormulaText) (d : ℕ) → ((n : ℕ) → weight_at (bind_steps outer w.steps) n ≤ 73728) →
+pub few_calls_light : (a : Algorithm) (u : StoredText) (outer : List Binding) (w : NestText) (f : FormulaText) (d : ℕ) → ((n : ℕ) → weight_at (bind_steps outer w.steps) n ≤ 73728) →
     ArePlain (bind_steps outer w.steps) ⊎ ((n : ℕ) → weight_at (bind_steps outer w.steps) n ≤ 49152) →
     (r : AroundText) → around a u outer w f d ≡ Some r → AreCallsLight a r (calls_in f)
 few_calls_light a u outer w f d few plain r stands i c at e m x found =

@@ -28,9 +28,9 @@ store_lines_owed a s l well legal small regions groups all free told grids few n
     let o = outline_of p c n g in
     let rules = rules_of a p c n in
     let x = from_map group_of l.plan.groups.items n g at in
-    let h = tailed_held a s l well legal small (regions all).0 all groups n x.0 x.1 u stands tailed.once tailed.inners fs defined r laid set simple in
-    let at_group = group_at a s l well legal small (regions all).0 all groups told free grids few n x.0 x.1 u stands tailed.once tailed.inners
-    (inside_so u.placed.loops u.placed.cuts tailed.inside) fs defined r laid
+    let h = tailed_held a s l well legal small (regions all).0 all groups n x.0 x.1 u stands tailed.once tailed.inners fs defined r laid set (inl simple) in
+    let at_group = group_at a s l well legal small (regions all).0 all groups told free grids few n x.0 x.1 u stands tailed.once tailed.inners (inside_so u.placed.loops u.placed.cuts
+    tailed.inside) fs defined r laid
     h.1 h.2 h.0 in
     let shown = subst (λ (y : Group). StoresAreShown a s l well legal small (regions all).0 all groups told free grids few n y) (sym x.2) (at_group.all_shown early) in
     let names = names_shown a s l well legal small regions groups all told n g at free in
@@ -43,8 +43,13 @@ pub near_blocked_owed : NearBlockedGroupsOweShown
 near_blocked_owed a s l well legal small regions groups all free told grids few near n g at u stands tailed fs defined r laid set close =
     let x = from_map group_of l.plan.groups.items n g at in
     elim close [
-      | inl kept ↦ (let h = blocked_held a s l well legal small (regions all).0 all groups n x.0 x.1 u stands kept.0 fs defined r laid set kept.1 in
+      | inl (inl region) ↦
+          (let h = tailed_held a s l well legal small (regions all).0 all groups n x.0 x.1 u stands tailed.once tailed.inners fs defined r laid set (inr region) in
           blocked_either a s l well legal small regions groups all free told grids few near n g at u stands tailed fs defined r laid h.1 h.2 h.0)
-      | inr simple ↦ (let h = tailed_held a s l well legal small (regions all).0 all groups n x.0 x.1 u stands tailed.once tailed.inners fs defined r laid set simple in
+      | inl (inr kept) ↦
+          (let h = blocked_held a s l well legal small (regions all).0 all groups n x.0 x.1 u stands kept.0 fs defined r laid set kept.1 in
+          blocked_either a s l well legal small regions groups all free told grids few near n g at u stands tailed fs defined r laid h.1 h.2 h.0)
+      | inr simple ↦
+          (let h = tailed_held a s l well legal small (regions all).0 all groups n x.0 x.1 u stands tailed.once tailed.inners fs defined r laid set (inl simple) in
           blocked_either a s l well legal small regions groups all free told grids few near n g at u stands tailed fs defined r laid h.1 h.2 h.0)
     ]

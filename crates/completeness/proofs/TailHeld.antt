@@ -1,6 +1,6 @@
--- What is fetched for functions whose loops are split once, with any tail, in any order, holds their calls, where all their indices are simple.
-use Rattle.std.proofs.Common.{◌≡◌, ℕ, zero, suc, ◌+◌, ◌-◌, ◌*◌, ◌<◌, ◌≤◌, true, false, List, [], ◌∷◌, length, map, Option, Some, None, sym, ap, ◌∙◌, subst, inl, inr, ◌⊎◌, arith}
-use Rattle.std.specs.Prelude.{ℤ, pos, slice_get}
+-- What is fetched for functions whose loops are split once, with any tail, in any order, holds their calls, where all their indices are simple or their regions begin near 0.
+use Rattle.std.proofs.Common.{◌≡◌, ℕ, zero, suc, ◌+◌, ◌-◌, ◌*◌, ◌<◌, ◌≤◌, true, false, List, [], ◌∷◌, length, map, Option, Some, None, refl, sym, ap, ◌∙◌, subst, inl, inr, ◌⊎◌, arith}
+use Rattle.std.specs.Prelude.{ℤ, pos, ◌+ℤ◌, ◌-ℤ◌, slice_get}
 use Rattle.std.specs.List.{AllByRecursion}
 use Rattle.std.proofs.lemmas.Int.{ints}
 use Rattle.std.proofs.Math.Nat.{mul-suc}
@@ -9,6 +9,8 @@ use Rattle.tree.specs.Names.{IsIndex}
 use Rattle.lin.specs.Forms.{Form}
 use Rattle.lin.specs.declared.scope.Binding.{Binding}
 use Rattle.lin.specs.declared.scope.Binding.TheVariants.{LetMin}
+use Rattle.std.specs.Int.RustNames.{unsigned_abs}
+use Rattle.headline.proofs.Members.{got}
 use Rattle.lin.proofs.TermLemmas.{all_weaker}
 use Rattle.bounds.proofs.ListSound.{all-append}
 use Rattle.plan.specs.declared.plan.Group.{Group as CodeGroup}
@@ -17,7 +19,7 @@ use Rattle.plan.specs.declared.certificate.cert.Need.{Need}
 use Rattle.plan.specs.Plan.{Plan}
 use Rattle.plan.specs.View.{plan_of, statement_of}
 use Rattle.plan.specs.Lines.{lines, body_line}
-use Rattle.meaning.specs.Algorithm.{Algorithm}
+use Rattle.meaning.specs.Algorithm.{Change, Algorithm}
 use Rattle.meaning.specs.Conditions.{IsAlgorithm}
 use Rattle.soundness.specs.Claims.{In}
 use Rattle.headline.proofs.Lists.{at_map}
@@ -33,11 +35,11 @@ use Rattle.sched.specs.declared.nest.Turning.{Turning}
 use Rattle.sched.specs.Numbers.{numbers_named, loop_numbers, parallel_loops, grid_counts, piece_counts, last_number, or_one, is_too_short}
 use Rattle.sched.specs.Placing.{is_parallel}
 use Rattle.sched.specs.Standing.{form_named, counted_from}
-use Rattle.sched.specs.Skeleton.{BodyText, NestText, SkeletonText, loop_turning, nest_turns, variables_at, ranges_at, grid_forms}
+use Rattle.sched.specs.Skeleton.{BodyText, NestText, SkeletonText, range_turning, loop_turning, nest_turns, variables_at, ranges_at, grid_forms}
 use Rattle.lower.specs.declared.lowering.Lowered.{Lowered}
 use Rattle.lower.specs.Stored.{FormulaText, StoredText, stored_functions, has_large}
 use Rattle.lower.specs.Faults.{are_whole, region_fault}
-use Rattle.lower.specs.Around.{bind_steps, grid_symbol, grid_scope, head_scope}
+use Rattle.lower.specs.Around.{bind_steps, ranges_of, grid_symbol, grid_scope, head_scope}
 use Rattle.lower.specs.Owning.{IsExtent, IsLaidBy}
 use Rattle.lower.specs.Regions.{LaidText, bodies_from, skeleton_of, laid_functions}
 use Rattle.lower.specs.Groups.{HasBody, HasGroups}
@@ -47,7 +49,7 @@ use Rattle.lower.proofs.Laying.{same}
 use Rattle.lower.proofs.Owners as owners
 use Rattle.completeness.specs.Laws.{AreSplitOnce}
 use Rattle.completeness.specs.Parted.{KeepsInner}
-use Rattle.completeness.specs.Stores.{AreHeld}
+use Rattle.completeness.specs.Stores.{IsCloseRegion, AreHeld}
 use Rattle.completeness.specs.Simple.{has_simple_indices, SimpleIndices}
 use Rattle.completeness.specs.Placed.{IsSettled, ArePlaced, AreLeftsHeld, AreOwnHeld}
 use Rattle.completeness.proofs.LeftHeld.{lefts_held, owns_held}
@@ -58,7 +60,7 @@ use Rattle.completeness.proofs.Halves.{AreOthers}
 use Rattle.completeness.proofs.Lanes.{AreOnce}
 use Rattle.completeness.proofs.PureNests.{all_in, all_from, all_get}
 use Rattle.completeness.proofs.UpdateTurns.{all_mapped, all_filtered}
-use Rattle.completeness.proofs.Boxes.{AreBoxes}
+use Rattle.completeness.proofs.Boxes.{AreBoxes, weight_at, span_light}
 use Rattle.completeness.proofs.FirstNumbers.{firsts, number_at, index_near}
 use Rattle.completeness.proofs.NearBoxes.{IsFew, IsBoxTurn, IsTurn as IsSizedTurn, box_turn, regions_few, AreFewNumbers, turn_few, IsCount}
 use Rattle.completeness.proofs.RangedBoxes.{turns_all}
@@ -68,6 +70,7 @@ use Rattle.std.proofs.lemmas.Option.{slice_get_within}
 use Rattle.plan.specs.declared.stmt.Pick.TheVariants.{Min}
 use Rattle.sched.specs.declared.skeleton.Step.{Step}
 use Rattle.sched.specs.declared.skeleton.Step.TheVariants.{Named}
+use Rattle.completeness.proofs.Laid.{found}
 use Rattle.completeness.proofs.Standing.{Rises, names_own}
 use Rattle.completeness.proofs.PlainNests.{grid_place}
 use Rattle.completeness.proofs.StoreBounds.{steps_keep}
@@ -76,14 +79,34 @@ use Rattle.completeness.proofs.TailSteps.{is_loop}
 use Rattle.completeness.proofs.TailTurns.{Entry, entry_steps, is_shifted, Right, IsTurn, IsLet, IsEntry}
 use Rattle.completeness.proofs.TailSkeletons.{IsTailNest, AreTails}
 use Rattle.completeness.proofs.StoreShapes as shapes_of
-use Rattle.completeness.proofs.BlockNear.{IsLightIf, variables_so, ranges_so, kept_light, lefts_light, simple_light}
-use Rattle.completeness.proofs.TailNear.{IsGood, store_boxes, right_good}
+use Rattle.completeness.proofs.BlockNear.{few_calls_light, IsLightIf, variables_so, ranges_so, kept_light, lefts_light, simple_light}
+use Rattle.completeness.proofs.TailNear.{all_close, IsGood, store_boxes, right_good}
 use Rattle.completeness.proofs.StoreTails.{lets_count, room_for}
 use Rattle.completeness.proofs.ShortShifts.{long_shifts}
 
 or_one_counts : (ks : List ℕ) → AllByRecursion IsCount ks → AllByRecursion IsCount (or_one ks)
 or_one_counts [] h = ((omega arith, omega arith), tt)
 or_one_counts (k ∷ ks) h = h
+
+-- the numbers of a loop go no farther than this
+abbrev IsCloseTurn : Turning → Type 0
+IsCloseTurn t = (unsigned_abs t.low ≤ 49152) × (unsigned_abs t.last ≤ 49152)
+
+turn_close : (rs : List Numbers) (o : Loop) → AreFewNumbers (numbers_named rs o.name) → unsigned_abs (numbers_named rs o.name).low ≤ 32768 → IsCloseTurn (loop_turning rs o)
+turn_close rs o few close = of (numbers_named rs o.name) close few.some few.few
+  where
+    of : (r : Numbers) → unsigned_abs r.low ≤ 32768 → 0 < r.count → r.count ≤ 8192 → (unsigned_abs r.low ≤ 49152) × (unsigned_abs (r.low +ℤ pos r.count -ℤ pos 1) ≤ 49152)
+    of r near some few = (omega (arith, near), omega (arith, ints, near, some, few))
+
+ranges_close : (us : List Change) (d : ℕ) → AllByRecursion (λ c. AllByRecursion (λ r. (unsigned_abs r.low ≤ 49152) × (unsigned_abs r.high ≤ 49152)) c.ranges) us →
+    AllByRecursion IsCloseTurn (map range_turning (ranges_of us d))
+ranges_close us zero h = tt
+ranges_close us (suc i) h = of (slice_get us i) refl
+  where
+    of : (o : Option Change) → slice_get us i ≡ o → AllByRecursion IsCloseTurn (map range_turning (elim o [ Some u ↦ u.ranges | None ↦ [] ]))
+    of None e = tt
+    of (Some u) e =
+        all_mapped range_turning IsCloseTurn u.ranges (got (λ (c : Change). AllByRecursion (λ r. (unsigned_abs r.low ≤ 49152) × (unsigned_abs r.high ≤ 49152)) c.ranges) us i u h e)
 
 -- ---- groups
 
@@ -223,6 +246,25 @@ module _ (a : Algorithm) (sch : Schedule) (l : Lowered) (well : IsAlgorithm a) (
     -- a full block has room
     roomy : (c : Split) → In c cuts → is_shifted c ≡ true → c.factor ≤ (numbers_named rs c.whole).count
     roomy c m e = room_for rs c e (all_in (λ c. is_too_short rs c ≡ false) cuts c roomy_all m)
+
+    abbrev Close : List ℕ → Type 0
+    Close x = unsigned_abs (numbers_named rs x).low ≤ 32768
+
+    wholes_close : AllByRecursion (λ e. unsigned_abs e.low ≤ 32768) h.extents → (x : List ℕ) → In x xs → Close x
+    wholes_close near x m = all_in Close xs x (of xs h.extents (owners.numbers g h.extents k laid) near) m
+      where
+        of : (ys : List (List ℕ)) (es : List Extent) → NumbersAre rs ys es → AllByRecursion (λ e. unsigned_abs e.low ≤ 32768) es → AllByRecursion Close ys
+        of [] es q r = tt
+        of (y ∷ ys) [] q r = absurd q
+        of (y ∷ ys) (e ∷ es) q r = (subst (λ (z : Numbers). unsigned_abs z.low ≤ 32768) (sym q.0) r.0, of ys es q.1 r.1)
+
+    close_loops : AllByRecursion (λ e. unsigned_abs e.low ≤ 32768) h.extents → AllByRecursion (λ o. IsCloseTurn (loop_turning rs o)) ls
+    close_loops near = all_from (λ o. IsCloseTurn (loop_turning rs o)) ls (λ o m. turn_close rs o (loop_few o m) (leaf_close o.name (loop_leaf o m)))
+      where
+        leaf_close : (y : List ℕ) → LeafName y → Close y
+        leaf_close y (inl m) = wholes_close near y m
+        leaf_close y (inr (c, m, inl e)) = subst Close (sym e) (subst (λ (z : Numbers). unsigned_abs z.low ≤ 32768) (sym (fits c m).outer) (omega arith))
+        leaf_close y (inr (c, m, inr e)) = subst Close (sym e) (subst (λ (z : Numbers). unsigned_abs z.low ≤ 32768) (sym (fits c m).inner) (omega arith))
 
     -- ---- a nest
 
@@ -388,11 +430,27 @@ module _ (a : Algorithm) (sch : Schedule) (l : Lowered) (well : IsAlgorithm a) (
         all_light : AllByRecursion (IsLightIf scope) w.at
         all_light = coordinates_all (IsLightIf scope) tt (λ f h. h.light)
 
+        -- how far the symbols go, where the region begins near 0
+        weights_here : IsCloseRegion g h.extents → (i : ℕ) → weight_at scope i ≤ 49152
+        weights_here close =
+            all_close cuts others once rs over_grid base xs fits wholes fit_of whole_few roomy inners k.head q.next es ts q.each unique_at off_at numbers_at sized_at shape_here.heads behind k.grid
+            counts_here scope scope_is grid_there grid_leaf head_there entry_there (λ c m. wholes_close close.0 c.whole (wholes c m)) turns_close
+          where
+            ranges_here : AllByRecursion IsCloseTurn q.body.ranges
+            ranges_here = subst (AllByRecursion IsCloseTurn) (sym (shapes_of.ranges_are a sch l well legal small kept all groups n first line g p claims needs at there h lined placed
+                alone_here laid split_alone keeps d q.body q.at)) (ranges_close g.changes d close.1)
+
+            turns_close : (j : ℕ) (e : Entry) → slice_get es j ≡ Some e → is_loop e.line ≡ true → IsCloseTurn e.turning
+            turns_close j e at_e loop =
+                let t = turn_of j e at_e loop in
+                all_get IsCloseTurn ts t.place e.turning (turns_all IsCloseTurn rs ls (close_loops close.0) q.body ranges_here) t.there
+
     simple_at : SimpleIndices fs → (d : ℕ) (f : FormulaText) → slice_get fs d ≡ Some f → has_simple_indices f ≡ true
     simple_at simple d f e = all_get (λ (y : FormulaText). has_simple_indices y ≡ true) fs d f simple e
 
-    boxed_here : SimpleIndices fs → (d : ℕ) (w : NestText) → slice_get k.nests d ≡ Some w → ((b : BodyText) → slice_get bs d ≡ Some b → AllByRecursion IsBoxTurn b.ranges) → IsIndexed a g fs k d w
-    boxed_here simple d w stands ranges =
+    boxed_here : SimpleIndices fs ⊎ IsCloseRegion g h.extents → (d : ℕ) (w : NestText) → slice_get k.nests d ≡ Some w →
+        ((b : BodyText) → slice_get bs d ≡ Some b → AllByRecursion IsBoxTurn b.ranges) → IsIndexed a g fs k d w
+    boxed_here (inl simple) d w stands ranges =
         let v = shape_here.nests d w stands in
         let here = ranges v.body v.at in
         let light = all_light d w stands here in
@@ -402,13 +460,26 @@ module _ (a : Algorithm) (sch : Schedule) (l : Lowered) (well : IsAlgorithm a) (
           light = λ f e. simple_light a g (head_scope k) w f d (simple_at simple d f e) light;
           lefts = λ f e j t at_j s found. kept_light (bind_steps (head_scope k) w.steps) s (lefts_light a g (head_scope k) w f d (simple_at simple d f e) light j t at_j s found);
         }
+    boxed_here (inr close) d w stands ranges =
+        let v = shape_here.nests d w stands in
+        let here = ranges v.body v.at in
+        let few_so = weights_here d w stands here close in
+        let more : (i : ℕ) → weight_at (bind_steps (head_scope k) w.steps) i ≤ 73728 = λ i. let less = few_so i in omega (arith, less) in
+        record {
+          boxes = boxes_here d w stands here;
+          indices = all_index d w stands here;
+          light = λ f e. few_calls_light a g (head_scope k) w f d more (inr few_so);
+          lefts = λ f e j t at_j s found. span_light (bind_steps (head_scope k) w.steps) more (inr few_so) s;
+        }
 
     formed_here : (d : ℕ) (w : NestText) → slice_get k.nests d ≡ Some w → IsFormed xs bs d w
     formed_here d w stands = (let v = shape_here.nests d w stands in record { body = v.body; at = v.at; known = v.known; forms = v.forms })
 
     -- so what is fetched holds the calls
-    held_here : SimpleIndices fs → (m : LaidText) → slice_get (laid_functions a gs) n ≡ Some (Some m) → m.skeleton ≡ k → skeleton_of g fs m.region ≡ Some m.skeleton → g.formulas ≡ Some fs →
-        ArePlaced a g fs m → AreHeld a gs n g fs m.skeleton × AreLeftsHeld a g fs m.region m.skeleton × AreOwnHeld a g fs m.region m.skeleton
+    held_here : SimpleIndices fs ⊎ IsCloseRegion g h.extents → (m : LaidText) → slice_get (laid_functions a gs) n ≡ Some (Some m) → m.skeleton ≡ k → skeleton_of g fs m.region ≡ Some
+        m.skeleton → g.formulas ≡ Some fs →
+        ArePlaced a g fs m →
+        AreHeld a gs n g fs m.skeleton × AreLeftsHeld a g fs m.region m.skeleton × AreOwnHeld a g fs m.region m.skeleton
     held_here simple m found_there same_skeleton_so over defined settled =
         let forms : (d : ℕ) (w : NestText) → slice_get m.skeleton.nests d ≡ Some w → IsFormed xs bs d w =
         λ d w stands. formed_here d w (ap (λ (y : SkeletonText). slice_get y.nests d) (sym same_skeleton_so) ∙ stands) in
@@ -424,7 +495,7 @@ module _ (a : Algorithm) (sch : Schedule) (l : Lowered) (well : IsAlgorithm a) (
   -- of a group of the plan
   pub tailed_held : (n : ℕ) (q : CodeGroup) → slice_get l.plan.groups.items n ≡ Some q → (u : StoredText) → slice_get gs n ≡ Some u → AreSplitOnce u.placed.cuts → KeepsInner u.placed.loops
       u.placed.cuts → (fs : List FormulaText) →
-      u.formulas ≡ Some fs → (m : LaidText) → slice_get (laid_functions a gs) n ≡ Some (Some m) → ArePlaced a u fs m → SimpleIndices fs →
+      u.formulas ≡ Some fs → (m : LaidText) → slice_get (laid_functions a gs) n ≡ Some (Some m) → ArePlaced a u fs m → SimpleIndices fs ⊎ IsCloseRegion u m.region →
       AreHeld a gs n u fs m.skeleton × AreLeftsHeld a u fs m.region m.skeleton × AreOwnHeld a u fs m.region m.skeleton
   tailed_held n q theirs u at once_only inners_only fs defined m found_there set simple =
       let me = made_at a sch l well legal small kept all groups n q theirs in
@@ -450,7 +521,11 @@ module _ (a : Algorithm) (sch : Schedule) (l : Lowered) (well : IsAlgorithm a) (
       let roomy : AllByRecursion (λ c. is_too_short (loop_numbers me.stored.subject.variables me.stored.placed.cuts body.extents) c ≡ false) me.stored.placed.cuts =
       subst (λ (es : List Extent). AllByRecursion (λ c. is_too_short (loop_numbers me.stored.subject.variables me.stored.placed.cuts es) c ≡ false) me.stored.placed.cuts) extents
       (long_shifts a sch kept n me.stored me.laid me.is me.found) in
-      let simple_here : SimpleIndices body.formulas = subst SimpleIndices (sym formulas) simple in
+      let simple_here : SimpleIndices body.formulas ⊎ IsCloseRegion me.stored body.extents =
+      subst (λ (es : List Extent). SimpleIndices body.formulas ⊎ IsCloseRegion me.stored es) extents
+      (subst (λ (y : LaidText). SimpleIndices body.formulas ⊎ IsCloseRegion me.stored y.region) (sym region)
+      (subst (λ (vs : List FormulaText). SimpleIndices vs ⊎ IsCloseRegion me.stored m.region) (sym formulas)
+      (subst (λ (y : StoredText). SimpleIndices fs ⊎ IsCloseRegion y m.region) (sym stored) simple))) in
       let few_here : AllByRecursion IsFew body.extents = subst (AllByRecursion IsFew) extents (regions_few a gs n me.laid all me.found) in
       let over : skeleton_of me.stored body.formulas me.laid.region ≡ Some me.laid.skeleton =
       subst (λ (vs : List FormulaText). skeleton_of me.stored vs me.laid.region ≡ Some me.laid.skeleton)

@@ -459,6 +459,64 @@ module _ (cuts : List Split) (others : AreOthers cuts) (once : AreOnce cuts) (rs
         of None e = omega arith
         of (Some b) e = got IsFar scope i b (all_symbols IsFar (omega arith) (λ k c. (let most = count_weight k c in omega (arith, most))) head_far entry_far) e
 
+    -- where loops and splits begin near 0 no symbol goes far
+    module _ (whole_close : (c : Split) → In c cuts → unsigned_abs (low c.whole) ≤ 32768)
+        (turn_close : (j : ℕ) (e : Entry) → slice_get es j ≡ Some e → is_loop e.line ≡ true → (unsigned_abs e.turning.low ≤ 49152) × (unsigned_abs e.turning.last ≤ 49152)) where
+      abbrev IsClose : Binding → Type 0
+      IsClose b = weight_of (Some b) ≤ 49152
+
+      let_close : (c : Split) (m : In c cuts) (form : Form) (z : ℤ) → form.constant ≡ low c.whole → IsClose (LetMin (form ∷ number z ∷ []))
+      let_close c m form z is = (let close = whole_close c m in subst (λ (y : ℤ). unsigned_abs y + 16384 ≤ 49152) (sym is) (omega (arith, close)))
+
+      entry_close : (j : ℕ) (e : Entry) → slice_get es j ≡ Some e → IsClose (entry_told e)
+      entry_close j e at_e = of (entries j e at_e)
+        where
+          of : EntryHere j e → IsClose (entry_told e)
+          of (inl t) = subst IsClose (sym (loop_told e t.loop)) (by t.limits)
+            where
+              by : (e.limits ≡ []) ⊎ ((c : Split) × In c cuts × (keeps_rest rs c ≡ true) × (e.turning.name ≡ c.inner) × (f : Form) × IsLimit cuts others once rs grid base head n es j c f ×
+                  (e.limits ≡ f ∷ [])) → IsClose (Bound (span e.turning.low e.turning.last e.limits))
+              by (inl none) =
+                  let turn = turn_close j e at_e t.loop in
+                  subst (λ (fs : List Form). IsClose (Bound (span e.turning.low e.turning.last fs))) (sym none)
+                  (both_under (unsigned_abs e.turning.low) (unsigned_abs e.turning.last) 49152 turn.0 turn.1)
+              by (inr (c, m, keeps, name, f, limit, is)) =
+                  subst (λ (x : Span1). IsClose (Bound x)) (sym (capped j e at_e t.loop c m name f limit is).is) (omega arith)
+          of (inr l) = by l.kind
+            where
+              c : Split
+              c = l.split
+
+              by : IsBlock cuts others once rs grid base head n es ts j e c
+                  ⊎ ((keeps_rest rs c ≡ true) × (form : Form) × (p : IsPair cuts others once rs grid base head n es c form) × (j ≡ p.outer_at + 1) × (e.line ≡ Pair form (last c.whole))) →
+                  IsClose (entry_told e)
+              by (inl b) =
+                  subst (λ (w : Line). IsClose (line_told w e.turning e.limits)) (sym b.line)
+                  (let_close c l.among b.form (room (numbers_named rs c.whole) c.factor) (first_constant c l.among (n + b.outer_at) b.form b.begins))
+              by (inr (keeps, form, p, place, line)) =
+                  subst (λ (w : Line). IsClose (line_told w e.turning e.limits)) (sym line) (let_close c l.among form (last c.whole) (pair_constant c l.among form p))
+
+      head_close : (j : ℕ) (step : Step) → slice_get head j ≡ Some step → (s : ℕ) (b : Binding) → Tells s b (step ∷ []) → IsClose b
+      head_close j step at_j s b tells = of (heads j step at_j)
+        where
+          of : IsHead cuts others once rs grid base (base + j) step → IsClose b
+          of h =
+              let c = h.split in
+              let r = outer_grid c h.among h.outer h.by_outer in
+              let begins = ap (combined (number (low c.whole)) (pos c.factor)) (sym r.1) ∙ h.begins in
+              let told = subst (λ (t : Step). Tells s b (t ∷ [])) h.is tells in
+              elim told [
+                | inl k ↦ subst IsClose k.1 (let_close c h.among h.form (room (numbers_named rs c.whole) c.factor) (first_constant c h.among r.0 h.form begins))
+                | inr k ↦ absurd k
+              ]
+
+      pub all_close : (i : ℕ) → weight_at scope i ≤ 49152
+      all_close i = of (slice_get scope i) refl
+        where
+          of : (o : Option Binding) → slice_get scope i ≡ o → weight_of o ≤ 49152
+          of None e = omega arith
+          of (Some b) e = got IsClose scope i b (all_symbols IsClose (omega arith) (λ k c. (let most = count_weight k c in omega (arith, most))) head_close entry_close) e
+
     -- ---- positions at the first numbers
 
     pub record IsGood (f : Form) : Type 0 where

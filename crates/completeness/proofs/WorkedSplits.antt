@@ -37,6 +37,9 @@ region_in _ = []
 region_first : region_in (slice_get (laid_functions two_functions gs) 0) ≡ points
 region_first = refl
 
+region_second : region_in (slice_get (laid_functions two_functions gs) 1) ≡ points
+region_second = refl
+
 near_points : IsNearRegion points
 near_points = (omega (arith, ints), (omega (arith, ints), tt))
 
@@ -162,7 +165,7 @@ placed (suc (suc n)) u at fs e r there = absurd (no_more u at)
 -- the first one's region begins near 0
 first_near : (u : StoredText) (fs : List FormulaText) (r : LaidText) → slice_get gs 0 ≡ Some u → slice_get (laid_functions two_functions gs) 0 ≡ Some (Some r) →
     IsNearOrSimple two_functions both_split 0 u fs r.region
-first_near u fs r at laid = inl (subst (IsKept two_functions both_split 0) (first_is u at) first_blocked, subst IsNearRegion (sym region_first ∙ ap region_in laid) near_points)
+first_near u fs r at laid = inl (inr (subst (IsKept two_functions both_split 0) (first_is u at) first_blocked, subst IsNearRegion (sym region_first ∙ ap region_in laid) near_points))
 
 -- and the second one's indices are simple, and its blocks are kept within the picture
 second_simple : SimpleIndices (formulas_in second.formulas)

@@ -32,7 +32,7 @@ use Rattle.lower.specs.Groups.{AreGroupsMade}
 use Rattle.completeness.specs.Laws.{AreLinesTold, NamesNoLoad, IsStore}
 use Rattle.completeness.specs.Owed.{OweShown, AreGridsFew, AreSymbolsFew, AreClaimsNear}
 use Rattle.completeness.specs.Nested.{TakeSplit}
-use Rattle.completeness.specs.Stores.{AreHeld, GroupShown, IsNearRegion}
+use Rattle.completeness.specs.Stores.{AreHeld, GroupShown, IsNearRegion, IsCloseRegion}
 use Rattle.completeness.specs.Simple.{SimpleIndices}
 use Rattle.completeness.specs.Placed.{ArePlaced, AreLeftsHeld, AreOwnHeld}
 use Rattle.completeness.specs.Blocked.{is_tailed, IsKept, IsTailed}
@@ -43,10 +43,10 @@ AreEndsShort rs cs =
     AllByRecursion
     (λ c. is_tailed rs c ≡ false → has_rest c (numbers_named rs c.whole).count ≡ true → (last_number (numbers_named rs c.whole) +ℤ pos c.factor) ≤ℤ pos 2147483647) cs
 
--- the region that is needed of the function begins near 0, and its blocks need no line of their own; or, wherever it begins, each index of its definitions is
--- simple
+-- the region that is needed of the function begins within 2^15 of 0, as, nearly, its reduction ranges do; or within 2^16, and its blocks need no line of their own; or,
+-- wherever it begins, each index of its definitions is simple
 abbrev pub IsNearOrSimple : Algorithm → Schedule → ℕ → StoredText → List FormulaText → List Extent → Type 0
-IsNearOrSimple a s n u fs es = (IsKept a s n u × IsNearRegion es) ⊎ SimpleIndices fs
+IsNearOrSimple a s n u fs es = (IsCloseRegion u es ⊎ (IsKept a s n u × IsNearRegion es)) ⊎ SimpleIndices fs
 
 -- of a group with a number that is not shown to be small: what its lines owe is shown but at such a line, of which that is told (K14); and none of its stores
 -- leaves its buffer, of which else what it owes is told before

@@ -49,3 +49,9 @@ GroupShown AreSuch a p c n g =
 -- the first numbers of a region are within 2^16
 abbrev pub IsNearRegion : List Extent → Type 0
 IsNearRegion es = AllByRecursion (λ x. unsigned_abs x.low ≤ 65536) es
+
+-- nearer: within 2^15; and the ends of the ranges of reduction variables within 49,152
+abbrev pub IsCloseRegion : StoredText → List Extent → Type 0
+IsCloseRegion u es =
+    AllByRecursion (λ x. unsigned_abs x.low ≤ 32768) es
+    × AllByRecursion (λ c. AllByRecursion (λ r. (unsigned_abs r.low ≤ 49152) × (unsigned_abs r.high ≤ 49152)) c.ranges) u.changes

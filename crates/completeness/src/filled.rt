@@ -14,9 +14,9 @@ pub fn blocked_groups_owe_shown()
     ensures { BlockedGroupsOweShown }
 {}
 
-/// So it is, whatever such a function fetches, where the region that is needed of it begins within 2^16 of 0 in each dimension, none of its loops is split with
-/// `shift` and no `guard` keeps numbers by a line of its own, or, wherever it begins, each index of its definitions is a literal or a variable, plus or minus
-/// literals and clamped to literals or not: the forms of what its indices stay within then have no multiples that go farther than 2^39 + 2^37 together, so that the
+/// So it is, whatever such a function fetches, where the region that is needed of it begins within 2^15 of 0 in each dimension, and its reduction ranges end within
+/// 49,152 of 0; or it begins within 2^16 of 0, none of its loops is split with `shift` and no `guard` keeps numbers by a line of its own; or, wherever it begins,
+/// each index of its definitions is a literal or a variable, plus or minus literals and clamped to literals or not: the forms of what its indices stay within then have no multiples that go farther than 2^39 + 2^37 together, so that the
 /// checker's search, which adds a number to each, stays within the limits of forms wherever `lower` did, and finds of each index no more than the ends by which
 /// `lower` told the regions of the functions it calls. Where some left index is no variable, asking for its own region came to an end: what its updates set and
 /// call, over the loops over that region, adds nothing to it. So each left index lies in it. Where blocks run past the numbers of 32 bits under `roundup`, what is
