@@ -50,6 +50,7 @@ use Rattle.lower.specs.Called.{called}
 use Rattle.lower.specs.Stored.{FormulaText, StoredText, calls_in, left_at, stored_functions, has_large}
 use Rattle.lower.specs.Faults.{are_whole, region_fault}
 use Rattle.lower.specs.Around.{AroundText, exactly, form_span, bind_steps, grid_symbol, grid_scope, head_scope, interval_in, left_around, coordinate_span, coordinates_behind, around}
+use Rattle.lower.specs.Around.{range_names, ranges_of}
 use Rattle.lower.specs.Owning.{IsExtent, IsLaidBy}
 use Rattle.lower.specs.Regions.{LaidText, bodies_from, skeleton_of, laid_functions}
 use Rattle.lower.specs.Groups.{HasBody, HasGroups}
@@ -62,6 +63,7 @@ use Rattle.completeness.specs.Parted.{KeepsInner}
 use Rattle.completeness.specs.Stores.{AreHeld, IsNearRegion}
 use Rattle.completeness.specs.Simple.{is_simple, are_simple, is_simple_left, has_simple_indices}
 use Rattle.completeness.specs.Placed.{IsSettled, ArePlaced, AreLeftsHeld, AreOwnHeld}
+use Rattle.completeness.proofs.RangeLoops.{AreNewNames}
 use Rattle.completeness.proofs.LeftHeld.{lefts_held, owns_held}
 use Rattle.completeness.specs.Blocked.{makes_line, IsKept}
 use Rattle.completeness.proofs.Owned.{some_same, same_extents, same_skeleton}
@@ -631,6 +633,19 @@ module _ (a : Algorithm) (sch : Schedule) (l : Lowered) (well : IsAlgorithm a) (
     formed_here : (d : ℕ) (w : NestText) → slice_get k.nests d ≡ Some w → IsFormed xs bs d w
     formed_here d w stands = (let v = shape_here.nests d w stands in record { body = v.body; at = v.at; known = v.known; forms = v.forms })
 
+    -- reduction variables have names of their own
+    new_names : (d : ℕ) (w : NestText) → slice_get k.nests d ≡ Some w → AreNewNames g.placed (range_names (ranges_of g.changes d))
+    new_names d w stands = record {
+      loops = λ x m o n e. apart x o.name m (loop_leaf o n) e;
+      wholes = λ x m c n e. apart x c.whole m (inl (wholes c n)) e;
+      outers = λ x m c n e. apart x c.outer m (inr (c, n, inl refl)) e;
+      inners = λ x m c n e. apart x c.inner m (inr (c, n, inr refl)) e;
+    }
+      where
+        apart : (x y : List ℕ) → In x (range_names (ranges_of g.changes d)) → (In y xs ⊎ ((c : Split) × In c cuts × ((y ≡ c.outer) ⊎ (y ≡ c.inner)))) → x ≡ y → ⊥
+        apart x y m leaf e = loops_of.reduction_apart a sch l well legal small kept all groups n first line g p claims needs at there h lined placed alone_here laid split_alone keeps filled
+            d w stands x y m leaf e
+
     -- so what is fetched holds the calls
     held_here : IsNearRegion h.extents → (m : LaidText) → slice_get (laid_functions a gs) n ≡ Some (Some m) → m.skeleton ≡ k → skeleton_of g fs m.region ≡ Some m.skeleton →
         g.formulas ≡ Some fs →
@@ -641,10 +656,12 @@ module _ (a : Algorithm) (sch : Schedule) (l : Lowered) (well : IsAlgorithm a) (
         let boxes : (d : ℕ) (w : NestText) → slice_get m.skeleton.nests d ≡ Some w → ((b : BodyText) → slice_get bs d ≡ Some b → AllByRecursion IsBoxTurn b.ranges) →
         IsIndexed a g fs m.skeleton d w =
         λ d w stands ranges. subst (λ (y : SkeletonText). IsIndexed a g fs y d w) (sym same_skeleton_so)
-        (boxed_here close d w (ap (λ (y : SkeletonText). slice_get y.nests d) (sym same_skeleton_so) ∙ stands) ranges) in (
+        (boxed_here close d w (ap (λ (y : SkeletonText). slice_get y.nests d) (sym same_skeleton_so) ∙ stands) ranges) in
+        let names : (d : ℕ) (w : NestText) → slice_get m.skeleton.nests d ≡ Some w → AreNewNames g.placed (range_names (ranges_of g.changes d)) =
+        λ d w stands. new_names d w (ap (λ (y : SkeletonText). slice_get y.nests d) (sym same_skeleton_so) ∙ stands) in (
           held_near a sch l well legal small kept all groups n g at fs defined m found_there over forms boxes,
-          lefts_held a sch l well legal small kept all groups n g at fs defined m found_there over forms boxes settled,
-          owns_held a sch l well legal small kept all groups n g at fs defined m found_there over forms boxes settled,
+          lefts_held a sch l well legal small kept all groups n g at fs defined m found_there over forms boxes others once names,
+          owns_held a sch l well legal small kept all groups n g at fs defined m found_there over forms boxes others once names settled,
         )
 
   -- of a group of the plan
@@ -682,8 +699,9 @@ module _ (a : Algorithm) (sch : Schedule) (l : Lowered) (well : IsAlgorithm a) (
       (same me.formulas body.formulas (sym me.defined ∙ body.defined)) me.over in
       let here = held_here n b.first_claim b.line me.stored q b.claims b.needs me.is theirs body begins b.numbered own laid mine.once mine.inners filled few_here close_here
       me.laid me.found skeleton over body.defined
-      (λ d j f e at_f at_e. subst (λ (y : LaidText). IsSettled a me.stored body.formulas y) (sym region) (subst (λ (vs : List FormulaText). IsSettled a me.stored vs m) (sym formulas)
-      (subst (λ (y : StoredText). IsSettled a y fs m) (sym stored) (set d j f e (ap (λ (vs : List FormulaText). slice_get vs d) (sym formulas) ∙ at_f) at_e)))) in
+      (λ d j i f e c at_f at_e at_c name. subst (λ (y : LaidText). IsSettled a me.stored body.formulas y) (sym region) (subst (λ (vs : List FormulaText). IsSettled a me.stored vs m) (sym formulas)
+      (subst (λ (y : StoredText). IsSettled a y fs m) (sym stored) (set d j i f e c (ap (λ (vs : List FormulaText). slice_get vs d) (sym formulas) ∙ at_f) at_e at_c (name ∙ ap (λ (y :
+      StoredText). y.subject.name) stored))))) in
       let held_there : AreHeld a gs n u fs m.skeleton =
       subst (λ (y : LaidText). AreHeld a gs n u fs y.skeleton) region
       (subst (λ (vs : List FormulaText). AreHeld a gs n u vs me.laid.skeleton) formulas (subst (λ (y : StoredText). AreHeld a gs n y body.formulas me.laid.skeleton) stored here.0)) in

@@ -144,7 +144,7 @@ module _ (a : Algorithm) (sch : Schedule) (l : Lowered) (well : IsAlgorithm a) (
     Typed ns functions cs = AllByRecursion (λ (c : Written). IsTypedCall (is_among ns) functions c.name c.at) cs
 
     module _ (d : ℕ) (formula : FormulaText) (nest : NestText) (there : slice_get fs d ≡ Some formula) (stands : slice_get k.nests d ≡ Some nest) where
-      ranges_are : (b : BodyText) → slice_get bs d ≡ Some b → b.ranges ≡ map range_turning (ranges_of u.changes d)
+      pub ranges_are : (b : BodyText) → slice_get bs d ≡ Some b → b.ranges ≡ map range_turning (ranges_of u.changes d)
       ranges_are b e = ranges_turned u.changes fs d b (ap (λ (rs : List (List ℕ)). slice_get (bodies_from u.changes 0 rs fs) d) (sym reductions) ∙ e)
 
       ranges_box : (b : BodyText) → slice_get bs d ≡ Some b → AllByRecursion IsBoxTurn b.ranges

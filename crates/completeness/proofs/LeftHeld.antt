@@ -1,7 +1,7 @@
--- A left index that is no variable is shown to lie in its dimension, and to be a number of 32 bits, where the region is what the function's updates widen some reach to and all symbols around
--- the store are of loops over some numbers near 0.
-use Rattle.std.proofs.Common.{◌≡◌, ℕ, zero, suc, ◌+◌, ◌<◌, ◌≤◌, ◌^◌, Bool, true, false, List, [], ◌∷◌, ◌++◌, length, map, drop, Option, Some, None, IsSome, refl, sym, ap, ◌∙◌, subst, append_assoc}
-use Rattle.std.proofs.Common.{append-nil, length-append, arith, inl, inr}
+-- A left index that is no variable is shown to lie in its dimension, and to be a number of 32 bits, where all symbols around the store are of loops over some numbers near 0; so is each index of
+-- a call of the function itself there, where the region is what the function's updates widen some reach to.
+use Rattle.std.proofs.Common.{◌≡◌, ℕ, zero, suc, ◌+◌, ◌<◌, ◌≤◌, ◌^◌, Bool, true, false, List, [], ◌∷◌, ◌++◌, length, map, drop, Option, Some, None, IsSome, refl, sym, ap, ◌∙◌, subst}
+use Rattle.std.proofs.Common.{length-append, arith, inl, inr}
 use Rattle.std.specs.Prelude.{pos, negsuc, ◌+ℤ◌, ◌-ℤ◌, ◌≤ℤ◌, ◌==◌, if◌then◌else◌, slice_get}
 use Rattle.std.specs.List.{AllByRecursion, list_any}
 use Rattle.std.specs.Int.RustNames.{unsigned_abs}
@@ -35,7 +35,7 @@ use Rattle.sched.proofs.Arriving.{skeletal}
 use Rattle.lower.specs.declared.lowering.Lowered.{Lowered}
 use Rattle.lower.specs.Called.{called}
 use Rattle.lower.specs.Stored.{FormulaText, StoredText, left_at, calls_in, formulas_put, stored_functions, has_large}
-use Rattle.lower.specs.Around.{AroundText, exactly, interval_in, form_span, coordinate_span, range_names, ranges_of, names_with, head_scope, left_around, around, coordinates_behind}
+use Rattle.lower.specs.Around.{AroundText, interval_in, form_span, coordinate_span, range_names, ranges_of, names_with, head_scope, left_around, around, coordinates_behind}
 use Rattle.lower.specs.Faults.{are_whole, region_fault}
 use Rattle.lower.specs.Regions.{LaidText, counts, ends_of, symbols_from, missing_from, bodies_from, skeleton_of, laid_functions}
 use Rattle.lower.specs.Bounded.{whole}
@@ -63,46 +63,18 @@ use Rattle.completeness.proofs.Boxes.{IsLightSpan}
 use Rattle.completeness.proofs.NearBoxes.{IsBoxTurn}
 use Rattle.completeness.proofs.FreedEnds.{AreOver, inside_all, whole_inside}
 use Rattle.completeness.proofs.CallEnds.{IsIndexEnded}
-use Rattle.completeness.proofs.LeftEnds.{left_ended, own_ended}
+use Rattle.completeness.proofs.LeftEnds.{own_ended, first_left, laid_from}
+use Rattle.completeness.proofs.LeftAlike.{beyond, formed_behind, ends_alike}
+use Rattle.completeness.proofs.RangeLoops.{AreOtherNames, AreNewNames, other_names, skeleton_ranges}
+use Rattle.completeness.proofs.Halves.{AreOthers}
+use Rattle.completeness.proofs.Lanes.{AreOnce}
+use Rattle.sched.specs.Standing.{◌>>=◌}
 use Rattle.completeness.proofs.HeldNear as near
 use Rattle.completeness.proofs.HeldNear.{IsFormed, IsIndexed}
 
 -- ---- coordinates that are found alike with and without left indices
 
-beyond : {A : Type 0} (xs : List A) (i : ℕ) → length xs ≤ i → slice_get xs i ≡ None
-beyond [] i le = refl
-beyond (x ∷ xs) zero le = absurd (omega (arith, le))
-beyond (x ∷ xs) (suc i) le = beyond xs i (omega (arith, le))
-
 module _ (a : Algorithm) (r : AroundText) (f : FormulaText) where
-  all_formed : (before cs : List Span1) (d : ℕ) (os : List (Option Form)) → ((i : ℕ) → left_at f (d + i) ≡ None) → coordinates_behind a r f before d os ≡ Some cs → cs ≡ before ++ map form_span os
-  all_formed before cs d [] none e = sym (same before cs e) ∙ sym (append-nil before)
-  all_formed before cs d (o ∷ os) none e =
-      let b = bound (coordinate_span a r o (left_at f d)) (λ s. coordinates_behind a r f (before ++ s ∷ []) (d + 1) os) cs e in
-      let zero_on : d ≡ d + 0 = omega arith in
-      let here : form_span o ≡ b.value = of o b.value (ap (coordinate_span a r o) (sym (ap (left_at f) zero_on ∙ none 0)) ∙ b.is) in
-      let rest = all_formed (before ++ b.value ∷ []) cs (d + 1) os (λ i. let next : (d + 1) + i ≡ d + suc i = omega arith in ap (left_at f) next ∙ none (suc i)) b.comes in
-      rest ∙ append_assoc before (b.value ∷ []) (map form_span os) ∙ ap (λ (s : Span1). before ++ s ∷ map form_span os) (sym here)
-    where
-      of : (o : Option Form) (s : Span1) → coordinate_span a r o None ≡ Some s → form_span o ≡ s
-      of (Some g) s q = same (exactly g) s q
-      of None s q = same (range_of I32) s q
-
-  formed_behind : (n : ℕ) (before cs : List Span1) (d : ℕ) (os : List (Option Form)) → ((i : ℕ) → n ≤ i → left_at f (d + i) ≡ None) → coordinates_behind a r f before d os ≡ Some cs →
-      n ≤ length os → (ps : List Span1) × (cs ≡ before ++ ps ++ map form_span (drop n os)) × (length ps ≡ n)
-  formed_behind zero before cs d os none e few = ([], all_formed before cs d os (λ i. none i (omega arith)) e ∙ (λ i. sym (append-nil before) i ++ map form_span (whole_list os i)), refl)
-    where
-      whole_list : (us : List (Option Form)) → us ≡ drop 0 us
-      whole_list [] = refl
-      whole_list (u ∷ us) = refl
-  formed_behind (suc n) before cs d [] none e few = absurd (omega (arith, few))
-  formed_behind (suc n) before cs d (o ∷ os) none e few =
-      let b = bound (coordinate_span a r o (left_at f d)) (λ s. coordinates_behind a r f (before ++ s ∷ []) (d + 1) os) cs e in
-      let rest = formed_behind n (before ++ b.value ∷ []) cs (d + 1) os
-      (λ i le. let next : (d + 1) + i ≡ d + suc i = omega arith in ap (left_at f) next ∙ none (suc i) (omega (arith, le))) b.comes (omega (arith, few)) in
-      let long = rest.2 in
-      (b.value ∷ rest.0, rest.1 ∙ ap (λ (ss : List Span1). ss ++ map form_span (drop n os)) (append_assoc before (b.value ∷ []) rest.0), omega (arith, long))
-
   -- the span of the coordinate at a place
   coordinate_got : (before cs : List Span1) (d : ℕ) (os : List (Option Form)) → coordinates_behind a r f before d os ≡ Some cs → (j : ℕ) (o : Option Form) → slice_get os j ≡ Some o →
       (s : Span1) × (slice_get cs (length before + j) ≡ Some s) × (coordinate_span a r o (left_at f (d + j)) ≡ Some s)
@@ -169,7 +141,9 @@ module _ (a : Algorithm) (sch : Schedule) (l : Lowered) (well : IsAlgorithm a) (
       (laid : slice_get (laid_functions a gs) n ≡ Some (Some m)) (over : skeleton_of u fs m.region ≡ Some m.skeleton)
       (formed : (d : ℕ) (w : NestText) → slice_get m.skeleton.nests d ≡ Some w → IsFormed u.subject.variables (bodies_from u.changes 0 u.subject.reductions fs) d w)
       (boxed : (d : ℕ) (w : NestText) → slice_get m.skeleton.nests d ≡ Some w →
-      ((b : BodyText) → slice_get (bodies_from u.changes 0 u.subject.reductions fs) d ≡ Some b → AllByRecursion IsBoxTurn b.ranges) → IsIndexed a u fs m.skeleton d w) where
+      ((b : BodyText) → slice_get (bodies_from u.changes 0 u.subject.reductions fs) d ≡ Some b → AllByRecursion IsBoxTurn b.ranges) → IsIndexed a u fs m.skeleton d w)
+      (others : AreOthers u.placed.cuts) (once : AreOnce u.placed.cuts)
+      (new_names : (d : ℕ) (w : NestText) → slice_get m.skeleton.nests d ≡ Some w → AreNewNames u.placed (range_names (ranges_of u.changes d))) where
     abbrev k : SkeletonText
     k = m.skeleton
 
@@ -263,7 +237,7 @@ module _ (a : Algorithm) (sch : Schedule) (l : Lowered) (well : IsAlgorithm a) (
           λ x among. let none = last_alone u.variables rn apart x among in
           ap (λ (ss : List Span1). span_named (u.variables ++ rn) ss x) y.1 ∙ span_behind u.variables rn y.0 (map form_span (drop N w.at)) x (sym y.2) none
           ∙ sym (ap (λ (ss : List Span1). span_named (u.variables ++ rn) ss x) z.1 ∙ span_behind u.variables rn z.0 (map form_span (drop N w.at)) x (sym z.2) none) in
-          ap (λ (t : AroundText). interval_in a t e) (sym spans.2) ∙ interval_agrees scope (called a) (u.variables ++ rn) spans.0 left.coordinates (is_among rn) each e I32 narrow
+          ap (λ (t : AroundText). interval_in a t e) (sym spans.2) ∙ interval_agrees scope (called a) (u.variables ++ rn) (u.variables ++ rn) spans.0 left.coordinates (is_among rn) each e I32 narrow
 
       over_all : SpanOnly (Below (length scope)) left_span.0
       over_all =
@@ -278,16 +252,36 @@ module _ (a : Algorithm) (sch : Schedule) (l : Lowered) (well : IsAlgorithm a) (
       negation_over : (g h : Form) → negated g ≡ Some h → AreOver scope index.boxes g.terms → AreOver scope index.boxes h.terms
       negation_over g h e q = only_combined (λ i. is_inner (symbols_from 0 (length scope)) i ≡ true) (number (pos 0)) (negsuc 0) g tt q h e
 
-      module _ (settled : IsSettled a u fs m) (x : Extent) (at_x : slice_get m.region j ≡ Some x) where
+      -- the names of its reduction variables
+      names_apart : (p : BodyText) → slice_get bs d ≡ Some p → AreOtherNames u.placed p.ranges
+      names_apart p at_p =
+          let turned = near.ranges_are a sch l well legal small kept all groups n u at fs defined m laid over formed boxed d f w at_f at_w p at_p in
+          let apart = near.apart a sch l well legal small kept all groups n u at fs defined m laid over formed boxed d f at_f in
+          subst (AreOtherNames u.placed) (sym turned) (other_names u.placed u.variables (ranges_of u.changes d) apart (new_names d w at_w))
+
+      module _ (x : Extent) (at_x : slice_get m.region j ≡ Some x) where
         ended_left : IsIndexEnded a r e m.region j
         ended_left =
             let region = region_is a gs n u m at laid in
             let long = region.long in
             let few_here = few in
             let less = slice_get_within m.region j x at_x in
-            let variables = ap length (near.variables_are a sch l well legal small kept all groups n u at fs defined m laid over formed boxed) in
-            left_ended a u (head_scope k) f w r j e at_j u.subject.is_root d fs k.nests settled.0 settled.1 m.region settled.2 settled.3 at_f at_w stands less
-            (omega (arith, few_here, long, variables))
+            let variables = near.variables_are a sch l well legal small kept all groups n u at fs defined m laid over formed boxed in
+            let many = ap length variables in
+            let reach = laid_from a gs n u fs m at defined laid in
+            let first = first_left a u fs reach.0 m reach.1 d f j e at_f at_j less (omega (arith, few_here, long, many)) in
+            let p = formed d w at_w in
+            let names = names_apart p.body p.at in
+            let apart = near.apart a sch l well legal small kept all groups n u at fs defined m laid over formed boxed d f at_f in
+            let mine = skeleton_ranges xs bs u.placed m.region k others once over d p.body w p.at at_w names in
+            let theirs = skeleton_ranges xs bs u.placed first.region first.skeleton others once first.over d p.body first.nest p.at first.nested names in
+            let one = ends_alike a u k p.body d f w r mine stands variables few_here apart e narrow in
+            let two = ends_alike a u first.skeleton p.body d f first.nest first.standing theirs first.stands variables few_here apart e narrow in
+            let end = first.ended in
+            let found : (interval_in a first.standing e >>= λ s. ends_of first.standing.scope s) ≡ Some end.ends =
+            ap (λ (o : Option Span1). o >>= λ s. ends_of first.standing.scope s) end.bounds ∙ end.freed in
+            let b = bound (interval_in a r e) (λ s. ends_of r.scope s) end.ends (one ∙ sym two ∙ found) in
+            record { span = b.value; bounds = b.is; ends = end.ends; freed = b.comes; inside = end.inside }
 
         -- an index that ends so, and whose ends are in their order, lies in the dimension, and in one that goes on behind it
         lies : (t : Term) (s : Span1) (end : IsIndexEnded a r t m.region j) → end.span ≡ s → end.ends.low ≤ℤ end.ends.high → SpanOnly (Below (length scope)) s → IsLightSpan scope s → (y : Extent) →
@@ -333,9 +327,10 @@ module _ (a : Algorithm) (sch : Schedule) (l : Lowered) (well : IsAlgorithm a) (
             lies e s end span_is le over_all (index.lefts f at_f j e left_j s left_span.2) y goes
 
         -- an index of a call of the function itself there
-        own_held : (i : ℕ) (c : Written) → slice_get (calls_in f) i ≡ Some c → c.name ≡ u.subject.name → (t : Term) → index_at c.at j ≡ Some t → (s : Span1) → interval_in a r t ≡ Some s →
+        own_held : IsSettled a u fs m → (i : ℕ) (c : Written) → slice_get (calls_in f) i ≡ Some c → c.name ≡ u.subject.name → (t : Term) → index_at c.at j ≡ Some t → (s : Span1) →
+            interval_in a r t ≡ Some s →
             (y : Extent) → GoesOn x y → span_inside scope s (whole y) ≡ true
-        own_held i c at_c name t at_t s found y goes =
+        own_held settled i c at_c name t at_t s found y goes =
             let region = region_is a gs n u m at laid in
             let long = region.long in
             let few_here = few in
@@ -360,10 +355,10 @@ module _ (a : Algorithm) (sch : Schedule) (l : Lowered) (well : IsAlgorithm a) (
             (lies t s end span_is le only light y goes).0
 
     -- so it is of all of them
-    pub lefts_held : ArePlaced a u fs m → AreLeftsHeld a u fs m.region k
-    lefts_held settled d f w r at_f at_w stands j e x y s at_j at_x goes at_s =
+    pub lefts_held : AreLeftsHeld a u fs m.region k
+    lefts_held d f w r at_f at_w stands j e x y s at_j at_x goes at_s =
         let z = left_span d f w r at_f at_w stands j e at_j in
-        let h = held d f w r at_f at_w stands j e at_j (settled d j f e at_f at_j) x at_x y goes in
+        let h = held d f w r at_f at_w stands j e at_j x at_x y goes in
         let here : slice_get r.coordinates j ≡ Some z.0 = ap (λ (t : AroundText). slice_get t.coordinates j) (sym (spans d f w r at_f at_w stands j e at_j).2) ∙ z.1 in
         let span_is : z.0 ≡ s = some_same z.0 s (sym here ∙ at_s) in
         let scope_is = ap (λ (t : AroundText). t.scope) (spans d f w r at_f at_w stands j e at_j).2 in
@@ -374,6 +369,6 @@ module _ (a : Algorithm) (sch : Schedule) (l : Lowered) (well : IsAlgorithm a) (
         all_slices (λ (c : Written). c.name ≡ u.subject.name → (j : ℕ) (e t : Term) (x y : Extent) (s : Span1) → slice_get f.at j ≡ Some (Some e) → slice_get m.region j ≡ Some x → GoesOn x y →
         index_at c.at j ≡ Some t → interval_in a r t ≡ Some s → span_inside r.scope s (whole y) ≡ true) (calls_in f)
         (λ i c at_c name j e t x y s at_j at_x goes at_t found.
-        let h = own_held d f w r at_f at_w stands j e at_j (settled d j f e at_f at_j) x at_x i c at_c name t at_t s found y goes in
+        let h = own_held d f w r at_f at_w stands j e at_j x at_x (settled d j i f e c at_f at_j at_c name) i c at_c name t at_t s found y goes in
         let scope_is = ap (λ (z : AroundText). z.scope) (spans d f w r at_f at_w stands j e at_j).2 in
         ap (λ (sc : List Binding). span_inside sc s (whole y)) (sym scope_is) ∙ h)

@@ -214,3 +214,6 @@ pub mod SlimLines
 pub mod ShortFiles
 pub mod SmallStores
 pub mod MadeFiles
+pub mod Renumbered
+pub mod RangeLoops
+pub mod LeftAlike

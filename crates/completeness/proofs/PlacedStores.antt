@@ -637,7 +637,7 @@ module _ (a : Algorithm) (sch : Schedule) (l : Lowered) (well : IsAlgorithm a) (
             subst (λ (ys : List (List ℕ)). span_named ys vars x ≡ span_named ys left x) names_text here
 
         agree_plain : (t : Term) (ty : Ty) → type_of (is_among rn) (called_there a) t ≡ Some ty → interval_in a plain_left t ≡ interval_in a rl t
-        agree_plain t ty typed = interval_agrees plain_left.scope (called_there a) N (map form_span w.at) left (is_among rn) plain_same t ty typed
+        agree_plain t ty typed = interval_agrees plain_left.scope (called_there a) N N (map form_span w.at) left (is_among rn) plain_same t ty typed
 
         -- ---- left indices
 
@@ -725,7 +725,7 @@ module _ (a : Algorithm) (sch : Schedule) (l : Lowered) (well : IsAlgorithm a) (
         agree_vars : (t : Term) (ty : Ty) → type_of (is_among rn) (called_there a) t ≡ Some ty → interval_in a r t ≡ interval_in a rl t
         agree_vars t ty typed =
             ap (λ (ss : List Span1). interval_in a (record plain_left { coordinates = ss }) t) (sym vars_are)
-            ∙ interval_agrees plain_left.scope (called_there a) N vars left (is_among rn) vars_same t ty typed
+            ∙ interval_agrees plain_left.scope (called_there a) N N vars left (is_among rn) vars_same t ty typed
 
         -- a left index is held by its dimension
         held_left : (j : ℕ) (c : Coordinate) → slice_get at' j ≡ Some c → (t : Term) → slice_get u.at j ≡ Some (Some t) → (x z : Extent) → slice_get h.extents j ≡ Some x → GoesOn x z →

@@ -104,9 +104,9 @@ module _ (known other : List ℕ → Bool) (functions : List ℕ → Option (Ty 
 
 -- ---- spans that are alike for the names that are known give one interval
 
-module _ (scope : List Binding) (functions : List ℕ → Option (Ty × ℕ)) (names : List (List ℕ)) (firsts others : List Span1) (known : List ℕ → Bool)
-    (agree : (x : List ℕ) → known x ≡ true → span_named names firsts x ≡ span_named names others x) where
-  pub interval_agrees : (e : Term) (t : Ty) → type_of known functions e ≡ Some t → interval scope functions names firsts e ≡ interval scope functions names others e
+module _ (scope : List Binding) (functions : List ℕ → Option (Ty × ℕ)) (names again : List (List ℕ)) (firsts others : List Span1) (known : List ℕ → Bool)
+    (agree : (x : List ℕ) → known x ≡ true → span_named names firsts x ≡ span_named again others x) where
+  pub interval_agrees : (e : Term) (t : Ty) → type_of known functions e ≡ Some t → interval scope functions names firsts e ≡ interval scope functions again others e
   interval_agrees (Number u n) t h = refl
   interval_agrees (Name x) t h = ap coordinate_of (agree x (only_if-is (known x) (Some I32) t h).0)
   interval_agrees (Call x at) t h = refl

@@ -7,6 +7,7 @@ use Rattle.lin.specs.Regions.{span_inside}
 use Rattle.lin.specs.declared.span.Span1.{Span1}
 use Rattle.bounds.specs.Spans.{range_of}
 use Rattle.meaning.specs.Algorithm.{Algorithm}
+use Rattle.algo.specs.Scoping.Standing.{Written}
 use Rattle.sched.specs.declared.numbers.Extent.{Extent}
 use Rattle.sched.specs.Skeleton.{NestText, SkeletonText}
 use Rattle.lower.specs.Stored.{FormulaText, StoredText, calls_in}
@@ -19,9 +20,11 @@ abbrev pub IsSettled : Algorithm → StoredText → List FormulaText → LaidTex
 IsSettled a g fs l =
     (reach : _) × (wide : _) × (add_all_own a g (head_scope l.skeleton) 0 fs l.skeleton.nests reach ≡ Some wide) × (region_of g.subject.is_root wide ≡ Some l.region)
 
--- where there is a left index that is no variable, asking for the region came to an end
+-- where a definition that has a left index that is no variable calls the function itself, asking for the region came to an end
 abbrev pub ArePlaced : Algorithm → StoredText → List FormulaText → LaidText → Type 0
-ArePlaced a g fs l = (d j : ℕ) (f : FormulaText) (e : Term) → slice_get fs d ≡ Some f → slice_get f.at j ≡ Some (Some e) → IsSettled a g fs l
+ArePlaced a g fs l =
+    (d j i : ℕ) (f : FormulaText) (e : Term) (c : Written) → slice_get fs d ≡ Some f → slice_get f.at j ≡ Some (Some e) → slice_get (calls_in f) i ≡ Some c → c.name ≡ g.subject.name →
+    IsSettled a g fs l
 
 -- the numbers of an extent, and perhaps more behind them, which are not far past those of 32 bits
 pub record GoesOn (x y : Extent) : Type 0 where
