@@ -159,11 +159,11 @@ fn seen<J: Run>(
     if before || !comes_to_know(&board, &mut second, piece) {
         return None;
     }
-    let own = checked.own(piece as usize);
-    if own.is_empty() {
+    let cells = checked.own(piece as usize);
+    if cells.is_empty() {
         return None;
     }
-    Some((piece, board.look(&mut second, own.cell(0))))
+    Some((piece, board.look(&mut second, cells.cell(0))))
 }
 
 // The cells of a checked plan.
