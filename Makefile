@@ -48,6 +48,7 @@ test:
 	python3 tests/hostile.py crates/stencil/out/stencil; \
 	python3 tests/faults.py crates/stencil/out/stencil; \
 	python3 tests/schedules.py crates/stencil/out/stencil; \
+	python3 tests/schedules.py crates/stencil/out/stencil 1400 2 --core; \
 	python3 tests/schedules.py crates/stencil/out/stencil 500 --placing; \
 	python3 tests/tiles.py crates/stencil/out/stencil; \
 	python3 tests/progress.py crates/stencil/out/stencil; \

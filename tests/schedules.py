@@ -1,7 +1,7 @@
 #!/usr/bin/env python3
 """Compiles random schedules of the algorithms in tests/schedules/ on a built program, and compares the pictures.
 
-    python3 tests/schedules.py PROGRAM [COUNT [SEED]] [--placing]
+    python3 tests/schedules.py PROGRAM [COUNT [SEED]] [--core | --placing]
 
 Half of the schedules split each dimension at most once and no inner loop of a split is parallel: of these each one that
 keeps the rules of schedules has to be compiled. The others split loops again and make any outermost loops parallel: what is
@@ -11,6 +11,9 @@ again, run by one worker and by three, those of the first 200 schedules by 2, 7 
 What is made up breaks L5, L8 and L10 alone, and a refusal by one of them is taken only where the schedule's text gives cause:
 an update and a parallel loop, `shift` (over fewer points than the factor, where the text tells how many), an update that is
 not stored. Any other rule that is told is a failure, and so is a plan of a schedule whose text breaks one.
+
+With `--core` all split each dimension at most once and make no inner loop of a split parallel; the first 200 are run as above,
+the others compiled and checked.
 
 With `--placing` functions are computed inside the loops of others too: wherever all that reads them is inside, stored at that
 loop or at one outside of it, folded or not. Such a schedule may also be refused by L6 (a definition that lacks the loop), L9
@@ -368,7 +371,7 @@ def outcome(program, workers, text, image, picture, made, kind):
         return "compiled", True
 
 
-def tries_of(chance, texts, count, is_placing):
+def tries_of(chance, texts, count, is_placing, is_core):
     """For each try the number of its algorithm, the schedule and its kind."""
     made = []
     for number in range(count):
@@ -376,7 +379,7 @@ def tries_of(chance, texts, count, is_placing):
         if is_placing:
             made.append((which, placing_schedule(chance, texts[which]), "inside loops"))
         else:
-            core = number % 2 == 0
+            core = is_core or number % 2 == 0
             made.append((which, schedule(chance, texts[which], core), "split once" if core else "split again"))
     return made
 
@@ -386,16 +389,19 @@ def main():
     words.add_argument("program")
     words.add_argument("count", nargs="?", type=int, default=500)
     words.add_argument("seed", nargs="?", type=int, default=1)
-    words.add_argument("--placing", action="store_true")
+    kinds = words.add_mutually_exclusive_group()
+    kinds.add_argument("--core", action="store_true")
+    kinds.add_argument("--placing", action="store_true")
     given = words.parse_args()
     program = str(Path(given.program).resolve())
     chance = random.Random(given.seed)
     texts = [path.read_text() for path in sorted(ALGORITHMS.glob("*.alg"))]
     images = [raster(text, chance) for text in texts]
     pictures = [plain_picture(program, text, image) for text, image in zip(texts, images)]
-    tries = tries_of(chance, texts, given.count, given.placing)
+    tries = tries_of(chance, texts, given.count, given.placing, given.core)
     with ThreadPoolExecutor() as pool:
-        crews = [WORKERS if number < CREWS else FEW for number in range(len(tries))]
+        others = [] if given.core else FEW
+        crews = [WORKERS if number < CREWS else others for number in range(len(tries))]
         found = list(pool.map(
             lambda crew, one: outcome(program, crew, texts[one[0]], images[one[0]], pictures[one[0]], one[1], one[2]),
             crews, tries))
