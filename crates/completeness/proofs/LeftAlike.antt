@@ -22,9 +22,8 @@ use Rattle.sched.specs.Standing.{◌>>=◌, alone}
 use Rattle.lower.specs.Called.{called}
 use Rattle.lower.specs.Stored.{FormulaText, StoredText, left_at}
 use Rattle.lower.specs.Around.{AroundText, exactly, interval_in, form_span, coordinate_span, range_names, ranges_of, head_scope, bind_steps, left_around, around, coordinates_behind}
-use Rattle.lower.specs.Regions.{ends_of, are_within}
+use Rattle.lower.specs.Regions.{ends_of}
 use Rattle.lower.proofs.Laying.{bound, same}
-use Rattle.completeness.proofs.Standing.{Taken}
 use Rattle.completeness.proofs.Written.{variables_long}
 use Rattle.completeness.proofs.RangeLoops.{HasRanges, alones, somes, loop_of, slice_none}
 use Rattle.completeness.proofs.Renumbered.{turned, spanned, spans_of, interval_ren, freed_ends_ren}
@@ -68,9 +67,6 @@ module _ (a : Algorithm) (r : AroundText) (f : FormulaText) where
       (b.value ∷ rest.0, rest.1 ∙ ap (λ (ss : List Span1). ss ++ map form_span (drop n os)) (append_assoc before (b.value ∷ []) rest.0), omega (arith, long))
 
 -- ---- the ends of what an index over reduction variables stays within
-
-abbrev Ends : Type 0
-Ends = Taken _ _ are_within
 
 -- the loops of a definition's reduction variables alone, and what the variables stay within
 abbrev pub scope_alone : BodyText → List Binding

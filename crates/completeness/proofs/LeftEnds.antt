@@ -166,6 +166,16 @@ module _ (a : Algorithm) (g : StoredText) (outer : List Binding) where
         more_ends a r t j mid out (grows_calls a r (Some f) g.subject.name (calls_in f) mid out more)
         (subst (HasEnds a r t mid) none (left_ends a r 0 f.at reach mid added (omega (arith, few)) j t at))) 0 m fs ns reach wide h there nested known less few
 
+    -- and so has an index of a call of the function itself at its place
+    own_has : (place : ℕ) (c : Written) → slice_get (calls_in f) place ≡ Some c → same_name c.name g.subject.name ≡ true → index_at c.at j ≡ Some t → counts (Some f) j ≡ true →
+        (m : ℕ) (fs : List FormulaText) (ns : List NestText) (reach wide : List (Option Ends)) → add_all_own a g outer 0 fs ns reach ≡ Some wide →
+        slice_get fs m ≡ Some f → slice_get ns m ≡ Some n → around a g outer n f m ≡ Some r → j < length reach → length f.at ≤ length reach → HasEnds a r t wide j
+    own_has place c there named at counted m fs ns reach wide h there_f nested stands less few =
+        let none : 0 + m ≡ m = omega arith in
+        let known : around a g outer n f (0 + m) ≡ Some r = subst (λ (i : ℕ). around a g outer n f i ≡ Some r) (sym none) stands in
+        all_own_ends (λ reach mid out added more less few. let many = (grows_left a r 0 f.at reach mid added).as_many in
+        own_calls_ends a r f g.subject.name (calls_in f) mid out more place c there named j t at (omega (arith, less, many)) counted) 0 m fs ns reach wide h there_f nested known less few
+
     pub own_ended : (place : ℕ) (c : Written) → slice_get (calls_in f) place ≡ Some c → same_name c.name g.subject.name ≡ true → index_at c.at j ≡ Some t → counts (Some f) j ≡ true →
         (root : Bool) (m : ℕ) (fs : List FormulaText) (ns : List NestText) (reach wide : List (Option Ends)) (region : List Extent) →
         add_all_own a g outer 0 fs ns reach ≡ Some wide → region_of root wide ≡ Some region → slice_get fs m ≡ Some f → slice_get ns m ≡ Some n → around a g outer n f m ≡ Some r →
@@ -279,9 +289,11 @@ module _ (a : Algorithm) (g : StoredText) (fs : List FormulaText) where
           let d = bound (over g fs region) (closed a g fs 3 wide) x e in
           grown_by 3 wide d.value x (found ∙ ap (λ (es : List Extent). Some es) (skeleton_over region d.value d.is).0) d.comes
 
-  pub first_left : (reach : List (Option Ends)) (m : LaidText) → laid_over a g fs reach ≡ Some m → (d : ℕ) (f : FormulaText) (j : ℕ) (e : Term) → slice_get fs d ≡ Some f →
-      slice_get f.at j ≡ Some (Some e) → j < length m.region → length f.at ≤ length m.region → IsFirst m d f j e
-  first_left reach m h d f j e there at less few =
+  first_by : (reach : List (Option Ends)) (m : LaidText) → laid_over a g fs reach ≡ Some m → (d : ℕ) (f : FormulaText) (j : ℕ) (e : Term) → slice_get fs d ≡ Some f →
+      j < length m.region → length f.at ≤ length m.region →
+      ((l : LaidText) (n : NestText) (r : AroundText) (wide reach : List (Option Ends)) → add_all_own a g (head_scope l.skeleton) 0 fs l.skeleton.nests reach ≡ Some wide →
+      slice_get l.skeleton.nests d ≡ Some n → around a g (head_scope l.skeleton) n f d ≡ Some r → j < length reach → length f.at ≤ length reach → HasEnds a r e wide j) → IsFirst m d f j e
+  first_by reach m h d f j e there less few has =
       let b = bound (region_of root reach >>= over g fs) (closed a g fs 4 reach) m h in
       let c = bound (region_of root reach) (over g fs) b.value b.is in
       let l : LaidText = b.value in
@@ -297,13 +309,7 @@ module _ (a : Algorithm) (g : StoredText) (fs : List FormulaText) where
       let long = region_length root grown.wide m.region grown.is in
       let none : 0 + d ≡ d = omega arith in
       let stands : around a g (head_scope l.skeleton) n.0 f d ≡ Some n.2 = ap (around a g (head_scope l.skeleton) n.0 f) (sym none) ∙ n.3 in
-      let ends = left_has a g (head_scope l.skeleton) f n.0 n.2 j e at d fs l.skeleton.nests reach w.value w.is there n.1 stands (omega (arith, less, many, more, long)) (omega (
-        arith,
-        few,
-        many,
-        more,
-        long,
-      )) in
+      let ends = has l n.0 n.2 w.value reach w.is n.1 stands (omega (arith, less, many, more, long)) (omega (arith, few, many, more, long)) in
       let all = more_ends a n.2 e j w.value grown.wide grown.grown ends in
       record {
         region = l.region;
@@ -321,6 +327,20 @@ module _ (a : Algorithm) (g : StoredText) (fs : List FormulaText) where
           inside = λ z low high x at_x. region_in root grown.wide m.region grown.is j z x (all.reached z low high) at_x;
         };
       }
+
+  pub first_left : (reach : List (Option Ends)) (m : LaidText) → laid_over a g fs reach ≡ Some m → (d : ℕ) (f : FormulaText) (j : ℕ) (e : Term) → slice_get fs d ≡ Some f →
+      slice_get f.at j ≡ Some (Some e) → j < length m.region → length f.at ≤ length m.region → IsFirst m d f j e
+  first_left reach m h d f j e there at less few =
+      first_by reach m h d f j e there less few
+      (λ l n r wide reach added nested stands less few. left_has a g (head_scope l.skeleton) f n r j e at d fs l.skeleton.nests reach wide added there nested stands less few)
+
+  pub first_own : (reach : List (Option Ends)) (m : LaidText) → laid_over a g fs reach ≡ Some m → (d : ℕ) (f : FormulaText) (j : ℕ) (t : Term) → slice_get fs d ≡ Some f →
+      (place : ℕ) (c : Written) → slice_get (calls_in f) place ≡ Some c → same_name c.name g.subject.name ≡ true → index_at c.at j ≡ Some t → counts (Some f) j ≡ true →
+      j < length m.region → length f.at ≤ length m.region → IsFirst m d f j t
+  first_own reach m h d f j t there place c at_c named at_t counted less few =
+      first_by reach m h d f j t there less few
+      (λ l n r wide reach added nested stands less few.
+      own_has a g (head_scope l.skeleton) f n r j t place c at_c named at_t counted d fs l.skeleton.nests reach wide added there nested stands less few)
 
 -- what is told of a stored function is laid over some reach
 pub laid_from : (a : Algorithm) (gs : List StoredText) (n : ℕ) (g : StoredText) (fs : List FormulaText) (m : LaidText) → slice_get gs n ≡ Some g → g.formulas ≡ Some fs →

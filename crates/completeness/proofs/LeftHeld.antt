@@ -2,7 +2,7 @@
 -- a call of the function itself there, where the region is what the function's updates widen some reach to.
 use Rattle.std.proofs.Common.{◌≡◌, ℕ, zero, suc, ◌+◌, ◌<◌, ◌≤◌, ◌^◌, Bool, true, false, List, [], ◌∷◌, ◌++◌, length, map, drop, Option, Some, None, IsSome, refl, sym, ap, ◌∙◌, subst}
 use Rattle.std.proofs.Common.{length-append, arith, inl, inr}
-use Rattle.std.specs.Prelude.{pos, negsuc, ◌+ℤ◌, ◌-ℤ◌, ◌≤ℤ◌, ◌==◌, if◌then◌else◌, slice_get}
+use Rattle.std.specs.Prelude.{◌⊎◌, pos, negsuc, ◌+ℤ◌, ◌-ℤ◌, ◌≤ℤ◌, ◌==◌, if◌then◌else◌, slice_get}
 use Rattle.std.specs.List.{AllByRecursion, list_any}
 use Rattle.std.specs.Int.RustNames.{unsigned_abs}
 use Rattle.std.proofs.lemmas.Int.{ints}
@@ -43,7 +43,7 @@ use Rattle.lower.specs.Groups.{HasGroups}
 use Rattle.lower.specs.Owning.{IsExtent}
 use Rattle.lower.proofs.Extents.{region_is}
 use Rattle.lower.proofs.Laying.{bound, same}
-use Rattle.completeness.specs.Placed.{IsSettled, ArePlaced, GoesOn, AreLeftsHeld, index_at, AreOwnHeld}
+use Rattle.completeness.specs.Placed.{IsSettled, ArePlaced, GoesOn, AreLeftsHeld, index_at, AreOwnHeld, IsOverRanges}
 use Rattle.completeness.proofs.HeldWhole.{HasIndex}
 use Rattle.completeness.proofs.LoadedTerms.{IsTypedCall}
 use Rattle.completeness.proofs.PureNests.{all_slices}
@@ -63,7 +63,7 @@ use Rattle.completeness.proofs.Boxes.{IsLightSpan}
 use Rattle.completeness.proofs.NearBoxes.{IsBoxTurn}
 use Rattle.completeness.proofs.FreedEnds.{AreOver, inside_all, whole_inside}
 use Rattle.completeness.proofs.CallEnds.{IsIndexEnded}
-use Rattle.completeness.proofs.LeftEnds.{own_ended, first_left, laid_from}
+use Rattle.completeness.proofs.LeftEnds.{own_ended, IsFirst, first_left, first_own, laid_from}
 use Rattle.completeness.proofs.LeftAlike.{beyond, formed_behind, ends_alike}
 use Rattle.completeness.proofs.RangeLoops.{AreOtherNames, AreNewNames, other_names, skeleton_ranges}
 use Rattle.completeness.proofs.Halves.{AreOthers}
@@ -260,28 +260,52 @@ module _ (a : Algorithm) (sch : Schedule) (l : Lowered) (well : IsAlgorithm a) (
           subst (AreOtherNames u.placed) (sym turned) (other_names u.placed u.variables (ranges_of u.changes d) apart (new_names d w at_w))
 
       module _ (x : Extent) (at_x : slice_get m.region j ≡ Some x) where
-        ended_left : IsIndexEnded a r e m.region j
-        ended_left =
-            let region = region_is a gs n u m at laid in
-            let long = region.long in
+        -- an index over reduction variables that has ends over the first region has them around the store
+        ended_alike : (t : Term) → type_of (is_among rn) (called a) t ≡ Some I32 → IsFirst a u fs m d f j t → IsIndexEnded a r t m.region j
+        ended_alike t typed first =
             let few_here = few in
-            let less = slice_get_within m.region j x at_x in
             let variables = near.variables_are a sch l well legal small kept all groups n u at fs defined m laid over formed boxed in
-            let many = ap length variables in
-            let reach = laid_from a gs n u fs m at defined laid in
-            let first = first_left a u fs reach.0 m reach.1 d f j e at_f at_j less (omega (arith, few_here, long, many)) in
             let p = formed d w at_w in
             let names = names_apart p.body p.at in
             let apart = near.apart a sch l well legal small kept all groups n u at fs defined m laid over formed boxed d f at_f in
             let mine = skeleton_ranges xs bs u.placed m.region k others once over d p.body w p.at at_w names in
             let theirs = skeleton_ranges xs bs u.placed first.region first.skeleton others once first.over d p.body first.nest p.at first.nested names in
-            let one = ends_alike a u k p.body d f w r mine stands variables few_here apart e narrow in
-            let two = ends_alike a u first.skeleton p.body d f first.nest first.standing theirs first.stands variables few_here apart e narrow in
+            let one = ends_alike a u k p.body d f w r mine stands variables few_here apart t typed in
+            let two = ends_alike a u first.skeleton p.body d f first.nest first.standing theirs first.stands variables few_here apart t typed in
             let end = first.ended in
-            let found : (interval_in a first.standing e >>= λ s. ends_of first.standing.scope s) ≡ Some end.ends =
+            let found : (interval_in a first.standing t >>= λ s. ends_of first.standing.scope s) ≡ Some end.ends =
             ap (λ (o : Option Span1). o >>= λ s. ends_of first.standing.scope s) end.bounds ∙ end.freed in
-            let b = bound (interval_in a r e) (λ s. ends_of r.scope s) end.ends (one ∙ sym two ∙ found) in
+            let b = bound (interval_in a r t) (λ s. ends_of r.scope s) end.ends (one ∙ sym two ∙ found) in
             record { span = b.value; bounds = b.is; ends = end.ends; freed = b.comes; inside = end.inside }
+
+        -- as many dimensions as left indices, at least
+        enough : length f.at ≤ length m.region
+        enough =
+            let region = region_is a gs n u m at laid in
+            let long = region.long in
+            let few_here = few in
+            let many = ap length (near.variables_are a sch l well legal small kept all groups n u at fs defined m laid over formed boxed) in
+            omega (arith, few_here, long, many)
+
+        ended_left : IsIndexEnded a r e m.region j
+        ended_left =
+            let reach = laid_from a gs n u fs m at defined laid in
+            ended_alike e narrow (first_left a u fs reach.0 m reach.1 d f j e at_f at_j (slice_get_within m.region j x at_x) enough)
+
+        named_own : (c : Written) → c.name ≡ u.subject.name → same_name c.name u.subject.name ≡ true
+        named_own c name = ap (λ (z : List ℕ). same_name z u.subject.name) name ∙ name_refl u.subject.name
+
+        counted_here : counts (Some f) j ≡ true
+        counted_here = ap (λ (o : Option Term). elim o [ Some e ↦ true | None ↦ false ]) left_j
+
+        ended_own : (i : ℕ) (c : Written) → slice_get (calls_in f) i ≡ Some c → c.name ≡ u.subject.name → (t : Term) → index_at c.at j ≡ Some t → IsOverRanges a u d t ⊎ IsSettled a u fs m →
+            IsIndexEnded a r t m.region j
+        ended_own i c at_c name t at_t (inl typed) =
+            let reach = laid_from a gs n u fs m at defined laid in
+            ended_alike t typed (first_own a u fs reach.0 m reach.1 d f j t at_f i c at_c (named_own c name) at_t counted_here (slice_get_within m.region j x at_x) enough)
+        ended_own i c at_c name t at_t (inr settled) =
+            own_ended a u (head_scope k) f w r j t i c at_c (named_own c name) at_t counted_here u.subject.is_root d fs k.nests settled.0 settled.1 m.region settled.2 settled.3 at_f at_w stands
+            (slice_get_within m.region j x at_x) enough
 
         -- an index that ends so, and whose ends are in their order, lies in the dimension, and in one that goes on behind it
         lies : (t : Term) (s : Span1) (end : IsIndexEnded a r t m.region j) → end.span ≡ s → end.ends.low ≤ℤ end.ends.high → SpanOnly (Below (length scope)) s → IsLightSpan scope s → (y : Extent) →
@@ -327,18 +351,10 @@ module _ (a : Algorithm) (sch : Schedule) (l : Lowered) (well : IsAlgorithm a) (
             lies e s end span_is le over_all (index.lefts f at_f j e left_j s left_span.2) y goes
 
         -- an index of a call of the function itself there
-        own_held : IsSettled a u fs m → (i : ℕ) (c : Written) → slice_get (calls_in f) i ≡ Some c → c.name ≡ u.subject.name → (t : Term) → index_at c.at j ≡ Some t → (s : Span1) →
-            interval_in a r t ≡ Some s →
-            (y : Extent) → GoesOn x y → span_inside scope s (whole y) ≡ true
-        own_held settled i c at_c name t at_t s found y goes =
-            let region = region_is a gs n u m at laid in
-            let long = region.long in
-            let few_here = few in
-            let less = slice_get_within m.region j x at_x in
-            let variables = ap length (near.variables_are a sch l well legal small kept all groups n u at fs defined m laid over formed boxed) in
-            let counted : counts (Some f) j ≡ true = ap (λ (o : Option Term). elim o [ Some e ↦ true | None ↦ false ]) left_j in
-            let end = own_ended a u (head_scope k) f w r j t i c at_c (ap (λ (z : List ℕ). same_name z u.subject.name) name ∙ name_refl u.subject.name) at_t counted u.subject.is_root d fs k.nests
-            settled.0 settled.1 m.region settled.2 settled.3 at_f at_w stands less (omega (arith, few_here, long, variables)) in
+        own_held : (i : ℕ) (c : Written) → slice_get (calls_in f) i ≡ Some c → c.name ≡ u.subject.name → (t : Term) → index_at c.at j ≡ Some t → IsOverRanges a u d t ⊎ IsSettled a u fs m →
+            (s : Span1) → interval_in a r t ≡ Some s → (y : Extent) → GoesOn x y → span_inside scope s (whole y) ≡ true
+        own_held i c at_c name t at_t settled s found y goes =
+            let end = ended_own i c at_c name t at_t settled in
             let span_is : end.span ≡ s = same end.span s (sym end.bounds ∙ found) in
             let names = names_with u.variables u.changes d in
             let typed_call = got (λ (c : Written). IsTypedCall (is_among names) (called a) c.name c.at) (calls_in f) i c
@@ -369,6 +385,6 @@ module _ (a : Algorithm) (sch : Schedule) (l : Lowered) (well : IsAlgorithm a) (
         all_slices (λ (c : Written). c.name ≡ u.subject.name → (j : ℕ) (e t : Term) (x y : Extent) (s : Span1) → slice_get f.at j ≡ Some (Some e) → slice_get m.region j ≡ Some x → GoesOn x y →
         index_at c.at j ≡ Some t → interval_in a r t ≡ Some s → span_inside r.scope s (whole y) ≡ true) (calls_in f)
         (λ i c at_c name j e t x y s at_j at_x goes at_t found.
-        let h = own_held d f w r at_f at_w stands j e at_j x at_x (settled d j i f e c at_f at_j at_c name) i c at_c name t at_t s found y goes in
+        let h = own_held d f w r at_f at_w stands j e at_j x at_x i c at_c name t at_t (settled d j i f e t c at_f at_j at_c name at_t) s found y goes in
         let scope_is = ap (λ (z : AroundText). z.scope) (spans d f w r at_f at_w stands j e at_j).2 in
         ap (λ (sc : List Binding). span_inside sc s (whole y)) (sym scope_is) ∙ h)

@@ -464,12 +464,6 @@ module _ (xs : List (List ℕ)) (p : PlacedText) (others : AreOthers p.cuts) (on
   subs ys = all_by_variable (λ d. In d p.cuts) p.cuts ys (all_from (λ d. In d p.cuts) p.cuts (λ d m. m))
 
   module _ (b : BodyText) (names : AreOtherNames p b.ranges) where
-    abbrev ds : List Turning
-    ds = b.ranges
-
-    abbrev N : List ℕ → Type 0
-    N = IsOtherName b.ranges
-
     abbrev cs : List Split
     cs = cuts_by_variable p.cuts (kept_from b 0 xs)
 

@@ -16,12 +16,11 @@ use Rattle.numeric.specs.Apply.{result_type}
 use Rattle.tree.specs.Term.{Term, Number, Name, Call, Minus, Binary, Clamp, Cast, Choice}
 use Rattle.tree.specs.Typing.{shape_type}
 use Rattle.lin.specs.Forms.{Form, number, is_zero, factor_of, in_front, plus_term, plus_terms, plus_multiple, without, is_within_limits, combined, same_terms, same_form}
-use Rattle.lin.specs.Search.{smaller, is_empty, number_of, replaced, result_at, total_at, least, replacements, sup, sup_of_difference, at_most, is_at_most_zero}
+use Rattle.lin.specs.Search.{smaller, is_empty, number_of, replaced, result_at, total_at, least, replacements, sup, sup_of_difference}
 use Rattle.lin.specs.declared.form.Multiple.{Multiple}
 use Rattle.lin.specs.declared.scope.Binding.{Binding}
 use Rattle.lin.specs.declared.scope.Binding.TheVariants.{Loop}
 use Rattle.lin.specs.declared.span.Span1.{Span1}
-use Rattle.lin.specs.Regions.{span_inside}
 use Rattle.bounds.specs.Lists.{checked, with_new, with_made, kept, all_combined, distance, gap, moved, all_moved, union}
 use Rattle.bounds.specs.Spans.{span_of, numbers, range_of, exactly, highest, depth, both_ends, ends_of, stay, fitted, sum_of, difference_of, multiples, multiple_of, ends_product, product_of}
 use Rattle.bounds.specs.Spans.{ends_quotient, quotient_of, remainder_of, or_range, joined, minimum_of, maximum_of, choice_of, binary_of, between, are_of, product_ends}
@@ -444,9 +443,6 @@ module _ (m b far : ℕ) (behind : b + m ≤ far) where
     over_ren : (f g : Form) → sup_of_difference scope (ren f) (ren g) ≡ sup_of_difference small f g
     over_ren f g = ap (λ (o : Option Form). option_and_then (λ d. sup scope d) o) (combined_ren f (negsuc 0) g) ∙ found_ren (λ d. sup scope d) (λ d. sup small d) sup_ren (combined f (negsuc 0) g)
 
-    pub at_most_ren : (f g : Form) → at_most scope (ren f) (ren g) ≡ at_most small f g
-    at_most_ren f g = ap is_at_most_zero (over_ren f g)
-
     -- ---- what needs the search
 
     gap_ren : (upper : Bool) (f : Form) (others : List Form) → gap scope upper (ren f) (map ren others) ≡ gap small upper f others
@@ -601,18 +597,6 @@ module _ (m b far : ℕ) (behind : b + m ≤ far) where
           let ty = shape_type functions a in
           (λ i. both (interval_ren a i) (interval_ren d i) (λ s t. choice_of scope ty s t))
           ∙ both_ren (interval small functions names region a) (interval small functions names region d) (λ s t. choice_of scope ty s t) (λ s t. choice_of small ty s t) (λ s t. choice_ren ty s t)
-
-    -- a span shown to lie in numbers
-    pub inside_ren : (s : Span1) (low high : ℤ) → span_inside scope (spanned s) (numbers low high) ≡ span_inside small s (numbers low high)
-    inside_ren s low high = λ i. (above s.lower i && true) && (below s.upper i && true)
-      where
-        above : (fs : List Form) → list_any (λ f. at_most scope (number low) f) (map ren fs) ≡ list_any (λ f. at_most small (number low) f) fs
-        above [] = refl
-        above (f ∷ fs) = λ i. at_most_ren (number low) f i || above fs i
-
-        below : (fs : List Form) → list_any (λ f. at_most scope f (number high)) (map ren fs) ≡ list_any (λ f. at_most small f (number high)) fs
-        below [] = refl
-        below (f ∷ fs) = λ i. at_most_ren f (number high) i || below fs i
 
     -- ---- forms freed of all symbols
 

@@ -51,7 +51,7 @@ use Rattle.completeness.specs.Laws.{AreSplitOnce}
 use Rattle.completeness.specs.Parted.{KeepsInner}
 use Rattle.completeness.specs.Stores.{IsCloseRegion, AreHeld}
 use Rattle.completeness.specs.Simple.{has_simple_indices, SimpleIndices}
-use Rattle.completeness.specs.Placed.{IsSettled, ArePlaced, AreLeftsHeld, AreOwnHeld}
+use Rattle.completeness.specs.Placed.{IsOverRanges, IsSettled, ArePlaced, AreLeftsHeld, AreOwnHeld}
 use Rattle.completeness.proofs.RangeLoops.{AreNewNames}
 use Rattle.completeness.proofs.LeftHeld.{lefts_held, owns_held}
 use Rattle.completeness.proofs.Owned.{some_same, same_extents, same_skeleton}
@@ -549,9 +549,13 @@ module _ (a : Algorithm) (sch : Schedule) (l : Lowered) (well : IsAlgorithm a) (
       (same me.formulas body.formulas (sym me.defined ∙ body.defined)) me.over in
       let here = held_here n b.first_claim b.line me.stored q b.claims b.needs me.is theirs body begins b.numbered own laid once_here inners_here roomy few_here simple_here
       me.laid me.found skeleton over body.defined
-      (λ d j i f e c at_f at_e at_c name. subst (λ (y : LaidText). IsSettled a me.stored body.formulas y) (sym region) (subst (λ (vs : List FormulaText). IsSettled a me.stored vs m) (sym formulas)
-      (subst (λ (y : StoredText). IsSettled a y fs m) (sym stored) (set d j i f e c (ap (λ (vs : List FormulaText). slice_get vs d) (sym formulas) ∙ at_f) at_e at_c (name ∙ ap (λ (y :
-      StoredText). y.subject.name) stored))))) in
+      (λ d j i f e t c at_f at_e at_c name at_t.
+      elim (set d j i f e t c (ap (λ (vs : List FormulaText). slice_get vs d) (sym formulas) ∙ at_f) at_e at_c (name ∙ ap (λ (y : StoredText). y.subject.name) stored) at_t) [
+        | inl o ↦ inl (subst (λ (y : StoredText). IsOverRanges a y d t) (sym stored) o)
+        | inr v ↦
+            inr (subst (λ (y : LaidText). IsSettled a me.stored body.formulas y) (sym region) (subst (λ (vs : List FormulaText). IsSettled a me.stored vs m) (sym formulas)
+            (subst (λ (y : StoredText). IsSettled a y fs m) (sym stored) v)))
+      ]) in
       let held_there : AreHeld a gs n u fs m.skeleton =
       subst (λ (y : LaidText). AreHeld a gs n u fs y.skeleton) region
       (subst (λ (vs : List FormulaText). AreHeld a gs n u vs me.laid.skeleton) formulas (subst (λ (y : StoredText). AreHeld a gs n y body.formulas me.laid.skeleton) stored here.0)) in

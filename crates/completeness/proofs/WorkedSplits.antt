@@ -134,10 +134,10 @@ first_settled = (
 )
 
 first_placed : ArePlaced two_functions first (formulas_in first.formulas) laid_first
-first_placed d j i f e c at_f at_e at_c name = first_settled
+first_placed d j i f e t c at_f at_e at_c name at_t = inr first_settled
 
 second_placed : ArePlaced two_functions second (formulas_in second.formulas) laid_second
-second_placed d j i f e c at_f at_e at_c name = absurd (none_left d j e (left_there (formulas_in second.formulas) d j f e at_f at_e))
+second_placed d j i f e t c at_f at_e at_c name at_t = absurd (none_left d j e (left_there (formulas_in second.formulas) d j f e at_f at_e))
 
 as_found : (g u : StoredText) (fs : List FormulaText) → g ≡ u → u.formulas ≡ Some fs → formulas_in g.formulas ≡ fs
 unfolding formulas_in
