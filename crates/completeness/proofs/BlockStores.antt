@@ -1,7 +1,7 @@
 -- Of functions whose loops are split once, by blocks that need no line of their own: all that the lines of their groups owe is shown, where what is fetched holds the calls, and left indices
 -- that are no variables lie in their dimensions.
 use Rattle.std.proofs.Common.{◌≡◌, ℕ, ◌+◌, ◌<◌, ◌≤◌, Bool, true, false, ◌&&◌, ◌∷◌, List, [], length, map, Some, None, sym, ap, ◌∙◌, subst, arith, ◌||◌, refl, inl, inr, ◌⊎◌}
-use Rattle.std.specs.Prelude.{string_bytes, if◌then◌else◌, slice_get, ◌==◌}
+use Rattle.std.specs.Prelude.{string_bytes, slice_get, ◌==◌}
 use Rattle.std.specs.List.{AllByRecursion, list_any, list_all}
 use Rattle.lin.specs.declared.span.Span1.{Span1}
 use Rattle.plan.specs.declared.plan.Group.{Group as CodeGroup}
@@ -30,7 +30,7 @@ use Rattle.sched.specs.Legal.{IsLegal, said, loops_after}
 use Rattle.sched.specs.declared.schedule.Split.{Split}
 use Rattle.sched.specs.declared.numbers.Extent.{Extent}
 use Rattle.sched.specs.declared.numbers.Numbers.{Numbers}
-use Rattle.sched.specs.Numbers.{loop_numbers, parallel_loops, is_too_short}
+use Rattle.sched.specs.Numbers.{loop_numbers, is_too_short}
 use Rattle.sched.specs.Skeleton.{SkeletonText}
 use Rattle.tails.specs.Steps.{spine_of}
 use Rattle.tails.specs.Nests.{makes_by}
@@ -63,7 +63,7 @@ use Rattle.completeness.proofs.RegionBounds.{IsEnded, region_ends, root_bounded}
 use Rattle.completeness.proofs.StoreBounds.{Shows}
 use Rattle.completeness.specs.Parted.{KeepsInner}
 use Rattle.completeness.specs.Nested.{SayYes, TakeSplit}
-use Rattle.completeness.specs.Blocked.{AreShiftsInside, IsTailed}
+use Rattle.completeness.specs.Fitting.{IsSplitOnce}
 use Rattle.completeness.specs.Filled.{AreEndsShort, BlockedGroupsOweShown, IsShownElsewhere}
 use Rattle.completeness.proofs.NamedClaims.{alone_body}
 use Rattle.completeness.proofs.NestWalk.{LetsFirst}
@@ -76,16 +76,13 @@ use Rattle.plan.specs.declared.stmt.Places.TheVariants.{From}
 use Rattle.sched.specs.declared.placing.Loop.{Loop}
 use Rattle.sched.specs.Placing.{is_parallel, is_scattered}
 use Rattle.sched.specs.Subjects.{lacks, scattered_from}
-use Rattle.completeness.proofs.PureNests.{all_in, loop_name}
+use Rattle.completeness.proofs.PureNests.{all_in}
 use Rattle.completeness.proofs.RangedLefts.{left_of_update}
 use Rattle.completeness.proofs.Unparallel.{apart, scattered_there}
 use Rattle.completeness.proofs.WholeDims.{whole_dimension}
 use Rattle.completeness.proofs.TailShown.{yes_at}
-use Rattle.completeness.proofs.PlainTurns.{hits, one_if}
-use Rattle.meaning.specs.Names.{same_name}
 use Rattle.sched.specs.declared.schedule.Tail.TheVariants.{Guard}
 use Rattle.completeness.proofs.ShortShifts.{long_shifts}
-use Rattle.completeness.proofs.TailTurns.{is_shifted}
 use Rattle.completeness.proofs.StoreShapes as nests_of
 use Rattle.completeness.proofs.StoreTails as tails_of
 use Rattle.completeness.proofs.PlacedStores as stores_of
@@ -112,21 +109,6 @@ has_member i (n ∷ ns) (inr h) = or_later (n == i) (is_member i ns) (has_member
     or_later : (b c : Bool) → c ≡ true → (b || c) ≡ true
     or_later true c k = refl
     or_later false c k = k
-
--- no shifted split's outer loop is over the grid
-none_over : (ls : List Loop) (y : List ℕ) → list_any (λ l. is_parallel l && same_name l.name y) ls ≡ false → hits loop_name y (parallel_loops ls) ≡ 0
-none_over [] y h = refl
-none_over (l ∷ ls) y h = of (is_parallel l) (same_name l.name y) refl h (none_over ls y)
-  where
-    of : (p q : Bool) → same_name l.name y ≡ q → ((p && q) || list_any (λ l. is_parallel l && same_name l.name y) ls) ≡ false →
-        (list_any (λ l. is_parallel l && same_name l.name y) ls ≡ false → hits loop_name y (parallel_loops ls) ≡ 0) → hits loop_name y (if p then l ∷ parallel_loops ls else parallel_loops ls) ≡ 0
-    of true true e k rest = absurd (cc k)
-    of true false e k rest = (let more = rest k in λ i. one_if (e i) + more i)
-    of false q e k rest = rest k
-
-pub inside_so : (ls : List Loop) (cs : List Split) → AreShiftsInside ls cs → AllByRecursion (λ c. is_shifted c ≡ true → hits loop_name c.outer (parallel_loops ls) ≡ 0) cs
-inside_so ls [] h = tt
-inside_so ls (c ∷ cs) h = ((λ e. none_over ls c.outer (h.0 e)), inside_so ls cs h.1)
 
 -- ---- groups
 
@@ -162,7 +144,6 @@ module _ (a : Algorithm) (sch : Schedule) (l : Lowered) (well : IsAlgorithm a) (
       (limits : IsLimited h.skeleton) (grid : q.grid.items ≡ h.skeleton.grid) (short : AllByRecursion IsShort h.skeleton.grid) (narrow : length h.skeleton.grid ≤ most_symbols)
       (few_here : BindBelow most_symbols (statement_of q.body)) (laid : IsLaidBy (texts f) h.extents h.skeleton) (split_alone : AreSplitOnce (texts f).placed.cuts)
       (keeps : KeepsInner (texts f).placed.loops (texts f).placed.cuts)
-      (shifts : AllByRecursion (λ c. is_shifted c ≡ true → hits loop_name c.outer (parallel_loops (texts f).placed.loops) ≡ 0) (texts f).placed.cuts)
       (roomy_all : AllByRecursion (λ c. is_too_short (loop_numbers (texts f).subject.variables (texts f).placed.cuts h.extents) c ≡ false) (texts f).placed.cuts)
       (lefts : AreLeftsHeld a (texts f) h.formulas h.extents h.skeleton) (own_indices : AreOwnHeld a (texts f) h.formulas h.extents h.skeleton)
       (bounded : is_bounded a (texts f) (head_scope h.skeleton) (map whole h.extents) 0 h.formulas h.skeleton.nests ≡ Some true) (ended : AllByRecursion IsEnded h.extents)
@@ -239,7 +220,7 @@ module _ (a : Algorithm) (sch : Schedule) (l : Lowered) (well : IsAlgorithm a) (
         dims_whole laid.long (nests_of.dims a sch l well legal small kept all groups n first line g q claims needs there theirs h lined numbered alone_here laid split_alone keeps)
         Early
         (λ d w stands known scoped. tails_of.ready_here a sch l well legal small kept all groups n first line g q claims needs there theirs h lined numbered alone_here laid split_alone
-        keeps shifts roomy_all ended d w stands known scoped) (body_bound a sch l well legal small kept all groups few n q f first line claims needs h laid limits grid short narrow bare few_here)
+        keeps roomy_all ended d w stands known scoped) (body_bound a sch l well legal small kept all groups few n q f first line claims needs h laid limits grid short narrow bare few_here)
 
     abbrev AllTold : Statement → ℕ → Known → Type 0
     AllTold s at_line known = IsStoreLine s → (nests : Nests) → Shows O R nests More (obligations O R s at_line known) ⊎ IsWideStore R s known
@@ -253,7 +234,7 @@ module _ (a : Algorithm) (sch : Schedule) (l : Lowered) (well : IsAlgorithm a) (
         dims_whole laid.long (nests_of.dims a sch l well legal small kept all groups n first line g q claims needs there theirs h lined numbered alone_here laid split_alone keeps)
         Early
         (λ d w stands known scoped. tails_of.ready_here a sch l well legal small kept all groups n first line g q claims needs there theirs h lined numbered alone_here laid split_alone
-        keeps shifts roomy_all ended d w stands known scoped) (body_bound a sch l well legal small kept all groups few n q f first line claims needs h laid limits grid short narrow bare few_here)
+        keeps roomy_all ended d w stands known scoped) (body_bound a sch l well legal small kept all groups few n q f first line claims needs h laid limits grid short narrow bare few_here)
 
     body_own : EachLine O R (λ s at_line known. StoresIntoOwn s) (statement_of q.body) (body_line plan n) (start (grid_binders q.grid.items))
     body_own =
@@ -264,7 +245,7 @@ module _ (a : Algorithm) (sch : Schedule) (l : Lowered) (well : IsAlgorithm a) (
         dims_whole laid.long (nests_of.dims a sch l well legal small kept all groups n first line g q claims needs there theirs h lined numbered alone_here laid split_alone keeps)
         Early
         (λ d w stands known scoped. tails_of.ready_here a sch l well legal small kept all groups n first line g q claims needs there theirs h lined numbered alone_here laid split_alone
-        keeps shifts roomy_all ended d w stands known scoped) (body_bound a sch l well legal small kept all groups few n q f first line claims needs h laid limits grid short narrow bare few_here)
+        keeps roomy_all ended d w stands known scoped) (body_bound a sch l well legal small kept all groups few n q f first line claims needs h laid limits grid short narrow bare few_here)
 
     -- blocks end within 32 bits, or no store is told to leave its buffer
     body_stays : Early ⊎ StaysIn (group_of q)
@@ -299,11 +280,10 @@ module _ (a : Algorithm) (sch : Schedule) (l : Lowered) (well : IsAlgorithm a) (
     pub all_stay : AreEndsShort (loop_numbers v.subject.variables v.placed.cuts es) v.placed.cuts ⊎ StaysIn x
 
   pub group_at : (n : ℕ) (q : CodeGroup) → slice_get l.plan.groups.items n ≡ Some q → (v : StoredText) → slice_get (stored_functions a sch) n ≡ Some v → AreSplitOnce v.placed.cuts →
-      KeepsInner v.placed.loops v.placed.cuts →
-      AllByRecursion (λ c. is_shifted c ≡ true → hits loop_name c.outer (parallel_loops v.placed.loops) ≡ 0) v.placed.cuts → (us : List FormulaText) → v.formulas ≡ Some us → (r : LaidText)
+      KeepsInner v.placed.loops v.placed.cuts → (us : List FormulaText) → v.formulas ≡ Some us → (r : LaidText)
       → slice_get (laid_functions a (stored_functions a sch)) n ≡ Some (Some r) →
       AreLeftsHeld a v us r.region r.skeleton → AreOwnHeld a v us r.region r.skeleton → AreHeld a (stored_functions a sch) n v us r.skeleton → IsStoring n (group_of q) v r.region
-  group_at n q theirs v stands once_only inners_only shifts us defined r found_there lefts own_indices held_parts =
+  group_at n q theirs v stands once_only inners_only us defined r found_there lefts own_indices held_parts =
       let me = made_at a sch l well legal small kept all groups n q theirs in
       let w = found a sch flags_of me.stored a.functions n me.is in
       let p = alone_body a entries mine 0 0 4 (stored_functions a sch) l.plan.groups.items mine l.certificate.needs.items (groups.bodies all)
@@ -330,8 +310,6 @@ module _ (a : Algorithm) (sch : Schedule) (l : Lowered) (well : IsAlgorithm a) (
       let this : v ≡ texts w.function = some_same v (texts w.function) (sym stands ∙ there) in
       let once_here : AreSplitOnce (texts w.function).placed.cuts = subst (λ (u : StoredText). AreSplitOnce u.placed.cuts) this once_only in
       let inners_here : KeepsInner (texts w.function).placed.loops (texts w.function).placed.cuts = subst (λ (u : StoredText). KeepsInner u.placed.loops u.placed.cuts) this inners_only in
-      let shifts_here : AllByRecursion (λ c. is_shifted c ≡ true → hits loop_name c.outer (parallel_loops (texts w.function).placed.loops) ≡ 0) (texts w.function).placed.cuts =
-      subst (λ (u : StoredText). AllByRecursion (λ c. is_shifted c ≡ true → hits loop_name c.outer (parallel_loops u.placed.loops) ≡ 0) u.placed.cuts) this shifts in
       let roomy : AllByRecursion (λ c. is_too_short (loop_numbers (texts w.function).subject.variables (texts w.function).placed.cuts body.extents) c ≡ false) (texts w.function).placed.cuts =
       subst (λ (es : List Extent). AllByRecursion (λ c. is_too_short (loop_numbers (texts w.function).subject.variables (texts w.function).placed.cuts es) c ≡ false) (texts w.function).placed.cuts)
       extents
@@ -364,11 +342,11 @@ module _ (a : Algorithm) (sch : Schedule) (l : Lowered) (well : IsAlgorithm a) (
       let symbols = few n (group_of q) (at_map group_of l.plan.groups.items n q theirs) in
       subst (IsStoring n (group_of q) v) (sym regions_same) (subst (λ (u : StoredText). IsStoring n (group_of q) u body.extents) (sym this) (record {
         all_shown = body_shows n q w.place w.function w.at there b.first_claim b.line b.claims b.needs theirs body holding b.numbered begins own limits grid short narrow symbols laid once_here
-            inners_here shifts_here roomy lefts_there own_there bounded region few_there held_there;
+            inners_here roomy lefts_there own_there bounded region few_there held_there;
         all_told = body_told n q w.place w.function w.at there b.first_claim b.line b.claims b.needs theirs body holding b.numbered begins own limits grid short narrow symbols laid once_here
-            inners_here shifts_here roomy lefts_there own_there bounded region few_there held_there;
+            inners_here roomy lefts_there own_there bounded region few_there held_there;
         all_stay = body_stays n q w.place w.function w.at there b.first_claim b.line b.claims b.needs theirs body holding b.numbered begins own limits grid short narrow symbols laid once_here
-            inners_here shifts_here roomy lefts_there own_there bounded region few_there held_there;
+            inners_here roomy lefts_there own_there bounded region few_there held_there;
       }))
 
 or_true : (b d : Bool) → b ≡ true → (b || d) ≡ true
@@ -380,17 +358,17 @@ slid_take a p c n g = ((λ bs m from places t e. or_true _ _ e), (λ bs m t e. e
 
 -- the tests of nests say yes to the claims of nests
 claims_say : (a : Algorithm) (s : Schedule) (l : Lowered) → IsAlgorithm a → IsLegal a s → AreSmall a s → AreRegionsKept a s → AreGroupsMade a s l → are_whole (stored_functions a s) ≡ true →
-    (n : ℕ) (g : Group) → slice_get (plan_of l.plan).groups n ≡ Some g → (u : StoredText) → slice_get (stored_functions a s) n ≡ Some u → IsTailed u →
+    (n : ℕ) (g : Group) → slice_get (plan_of l.plan).groups n ≡ Some g → (u : StoredText) → slice_get (stored_functions a s) n ≡ Some u → IsSplitOnce u →
     (nests : Nests) → TakeSplit a (plan_of l.plan) (certificate_of l.certificate) n g nests →
     EachClaim (outline_of (plan_of l.plan) (certificate_of l.certificate) n g) (rules_of a (plan_of l.plan) (certificate_of l.certificate) n)
     (λ kept begin last k t m. (IsFetch t → ⊥) → SayYes (outline_of (plan_of l.plan) (certificate_of l.certificate) n g) (rules_of a (plan_of l.plan) (certificate_of l.certificate) n) nests k t m)
     [] g.body (body_line (plan_of l.plan) n) (start (grid_binders g.grid))
-claims_say a s l well legal small regions groups all n g at u there tailed nests takes =
+claims_say a s l well legal small regions groups all n g at u there split_once nests takes =
     let p = plan_of l.plan in
     let c = certificate_of l.certificate in
     let rules = rules_of a p c n in
     let x = from_map group_of l.plan.groups.items n g at in
-    let here = yes_at a s l well legal small (regions all).0 all groups n x.0 x.1 u there tailed in
+    let here = yes_at a s l well legal small (regions all).0 all groups n x.0 x.1 u there split_once in
     let yes = subst (λ (v : Group). EachClaim (outline_of p c n v) rules
     (λ kept begin last k t m. (IsFetch t → ⊥) → (tests : Nests) → TakeSplit a p c n v tests → SayYes (outline_of p c n v) rules tests k t m) [] v.body (body_line p n)
     (start (grid_binders v.grid))) (sym x.2) here in
@@ -400,14 +378,13 @@ claims_say a s l well legal small regions groups all n g at u there tailed nests
     (start (grid_binders g.grid)) yes yes
 
 pub blocked_owed : BlockedGroupsOweShown
-blocked_owed a s l well legal small regions groups all free told grids few near n g at u there tailed fs defined r laid lefts own_indices held_parts early nests takes =
+blocked_owed a s l well legal small regions groups all free told grids few near n g at u there split_once fs defined r laid lefts own_indices held_parts early nests takes =
     let p = plan_of l.plan in
     let c = certificate_of l.certificate in
     let o = outline_of p c n g in
     let rules = rules_of a p c n in
     let x = from_map group_of l.plan.groups.items n g at in
-    let at_group = group_at a s l well legal small (regions all).0 all groups told free grids few n x.0 x.1 u there tailed.once tailed.inners
-    (inside_so u.placed.loops u.placed.cuts tailed.inside) fs defined r laid lefts own_indices held_parts in
+    let at_group = group_at a s l well legal small (regions all).0 all groups told free grids few n x.0 x.1 u there split_once.once split_once.inners fs defined r laid lefts own_indices held_parts in
     let shown = subst (λ (y : Group). StoresAreShown a s l well legal small (regions all).0 all groups told free grids few n y) (sym x.2) (at_group.all_shown early) in
     let stores = lines_weaker o rules (λ t i y. IsStoreLine t → (tests : Nests) → Shows o rules tests (λ o'. IsNameTest o'.wanted → ⊥) (obligations o rules t i y))
     (λ t i y. IsStoreLine t → AllByRecursion (λ o'. (IsNameTest o'.wanted → ⊥) → is_shown rules nests o' ≡ true) (obligations o rules t i y)) (λ t i y z one. z one nests) g.body (body_line p n)
@@ -415,7 +392,7 @@ blocked_owed a s l well legal small regions groups all free told grids few near 
     let plain : TakePlain a p c n g nests = λ bs m from places t e. takes.0 bs m from places t
     (ap (λ (b : Bool). b || makes_by o.setting rules (domains_of a) bs (o.claim m) from places (spine_of t (o.claim m).buffer)) e) in
     rest_left a s l well legal small regions groups all (grids, near, told) n g at free nests plain stores
-    (claims_say a s l well legal small regions groups all n g at u there tailed nests takes)
+    (claims_say a s l well legal small regions groups all n g at u there split_once nests takes)
 
 -- what is owed at a line of a store whose coordinate is not shown to be an i32
 met_at : (rules : Rules) (nests : Nests) (wide : List ℕ) (os : List Obligation) (i : ℕ) → AllByRecursion (λ x. x.line ≡ i) os → is_member i wide ≡ true →
@@ -446,12 +423,12 @@ wide_met o rules nests wide (Publish c) i y w h = absurd w
 pub blocked_either : (a : Algorithm) (s : Schedule) (l : Lowered) → IsAlgorithm a → IsLegal a s → AreSmall a s → AreRegionsKept a s → AreGroupsMade a s l →
     are_whole (stored_functions a s) ≡ true → NamesNoLoad a → AreLinesTold (plan_of l.plan) → AreGridsFew (plan_of l.plan) → AreSymbolsFew (plan_of l.plan) →
     AreClaimsNear (certificate_of l.certificate) → (n : ℕ) (g : Group) → slice_get (plan_of l.plan).groups n ≡ Some g → (u : StoredText) → slice_get (stored_functions a s) n ≡ Some u →
-    IsTailed u → (fs : List FormulaText) → u.formulas ≡ Some fs → (r : LaidText) → slice_get (laid_functions a (stored_functions a s)) n ≡ Some (Some r) →
+    IsSplitOnce u → (fs : List FormulaText) → u.formulas ≡ Some fs → (r : LaidText) → slice_get (laid_functions a (stored_functions a s)) n ≡ Some (Some r) →
     AreLeftsHeld a u fs r.region r.skeleton → AreOwnHeld a u fs r.region r.skeleton → AreHeld a (stored_functions a s) n u fs r.skeleton →
     GroupShown TakeSplit a (plan_of l.plan) (certificate_of l.certificate) n g ⊎ IsShownElsewhere a (plan_of l.plan) (certificate_of l.certificate) n g
-blocked_either a s l well legal small regions groups all free told grids few near n g at u there tailed fs defined r laid lefts own_indices held_parts =
+blocked_either a s l well legal small regions groups all free told grids few near n g at u there split_once fs defined r laid lefts own_indices held_parts =
     elim at_group.all_stay [
-      | inl early ↦ inl (λ nests takes. blocked_owed a s l well legal small regions groups all free told grids few near n g at u there tailed fs defined r laid lefts own_indices held_parts
+      | inl early ↦ inl (λ nests takes. blocked_owed a s l well legal small regions groups all free told grids few near n g at u there split_once fs defined r laid lefts own_indices held_parts
           early nests takes)
       | inr stays ↦ inr (record { shown = elsewhere; stays = λ b k e. subst StaysIn (sym x.2) stays b k e })
     ]
@@ -472,8 +449,7 @@ blocked_either a s l well legal small regions groups all free told grids few nea
     x = from_map group_of l.plan.groups.items n g at
 
     at_group : IsStoring a s l well legal small (regions all).0 all groups told free grids few n (group_of x.0) u r.region
-    at_group = group_at a s l well legal small (regions all).0 all groups told free grids few n x.0 x.1 u there tailed.once tailed.inners
-        (inside_so u.placed.loops u.placed.cuts tailed.inside) fs defined r laid lefts own_indices held_parts
+    at_group = group_at a s l well legal small (regions all).0 all groups told free grids few n x.0 x.1 u there split_once.once split_once.inners fs defined r laid lefts own_indices held_parts
 
     nests : Nests
     nests = slid_nests o rules (domains_of a)
@@ -513,4 +489,4 @@ blocked_either a s l well legal small regions groups all free told grids few nea
     elsewhere : list_all met (obligations o rules g.body (body_line p n) (start (grid_binders g.grid))) ≡ true
     elsewhere =
         rest_met a s l well legal small regions groups all grids near told n g at free nests plain met shown_met stores
-        (claims_say a s l well legal small regions groups all n g at u there tailed nests takes)
+        (claims_say a s l well legal small regions groups all n g at u there split_once nests takes)

@@ -60,8 +60,8 @@ use Rattle.completeness.proofs.Unlike.{get_second}
 use Rattle.completeness.proofs.Counts.{fetches_claim}
 use Rattle.completeness.proofs.OwnClaimed.{Among, all_above, all_below, more_among}
 use Rattle.completeness.proofs.NamedClaims.{member_named, in_either, body_lines, fetched_range, nests_range, alone_body}
-use Rattle.completeness.proofs.NestWalk.{down, fetched_at, own_region, IsHere, Knows, Holds, Before, IsFree, LetsFirst, Lone, Evens, all_even}
-use Rattle.completeness.proofs.NestWalk.{Fits, From, Holding, nests_each, lets_each, alloc_each, fetches_each}
+use Rattle.completeness.proofs.NestWalk.{down, fetched_at, own_region, IsHere, Holds, Before, IsFree, LetsFirst, lets_around, Lone, Evens, all_even}
+use Rattle.completeness.proofs.NestWalk.{Fits, From, Holding, nests_each, lets_each, lead_around, alloc_each, fetches_each}
 
 -- ---- lists
 
@@ -342,7 +342,7 @@ module _ (a : Algorithm) (sch : Schedule) (l : Lowered) (well : IsAlgorithm a) (
         (fetched : (kept : List Window) (begin last : ℕ) (known : Known) (b h : ℕ) (r : List Span1) (c : ℕ) → P kept begin last known (Fetch b h r) c)
         (B : List Binder → Type 0) (L : ℕ → Pick → List Form → Type 0) (bind : (i : ℕ) (pick : Pick) (fs : List Form) (bs : List Binder) → L i pick fs → B bs → B (Picked i pick fs ∷ bs))
         (fits : Fits O R P fetched B L bind items named_claims line end places g.subject.name region g refl fs claim k.nests)
-        (head : LetsFirst L k.head) (lets : AllByRecursion (λ w. LetsFirst L w.steps) k.nests) (bound : B (grid_binders k.grid)) where
+        (lets : AllByRecursion (λ w. LetsFirst L w.steps) k.nests) (bound : B (lets_around k.head (grid_binders k.grid))) where
       count : lines (statement_of p.body) ≡ step_lines k.head + (1 + (2 * length h.body.fetches + (block_lines (block h.body.nests) + 1)))
       count = body_lines a entries items n first line g p claims needs h
 
@@ -398,8 +398,8 @@ module _ (a : Algorithm) (sch : Schedule) (l : Lowered) (well : IsAlgorithm a) (
           ∙ placed (length h.body.fetched + j) v
           (ap (λ (ws : List CodeClaim). slice_get ws (length h.body.fetched + j)) h.body.claimed ∙ get_second a entries items h.body.fetched h.body.own j ∙ e)
 
-      pub body_each : EachClaim O R P [] (statement_of p.body) (body_line plan n) (start (grid_binders p.grid.items))
-      body_each =
+      pub body_around : EachClaim O R P [] (statement_of p.body) (body_line plan n) (start (grid_binders p.grid.items))
+      body_around =
           let b = h.body in
           let all_lines = count in
           let nests : Holding O R P fetched B L bind items named_claims line end places g.subject.name region nests_line (block rest) =
@@ -416,14 +416,23 @@ module _ (a : Algorithm) (sch : Schedule) (l : Lowered) (well : IsAlgorithm a) (
           alloc_each O R P fetched B L bind items named_claims line end places g.subject.name region g.subject.name (block (with_fetches b.fetches rest)) ((line + 1) + step_lines k.head)
           (omega arith) (omega (arith, all_lines)) (head_free ((line + 1) + step_lines k.head) (omega arith) (omega arith))
           (subst (λ (m : ℕ). Holding O R P fetched B L bind items named_claims line end places g.subject.name region m (block (with_fetches b.fetches rest))) second fetches) in
-          let first_known : Knows B items line end (start (grid_binders k.grid)) = record { own = λ j m. absurd (cc m); bound = bound } in
           let shown : ClaimsOf O R P [] code (line + 1) (start (grid_binders k.grid)) =
           lets_each O R P fetched B L bind items named_claims line end places g.subject.name region k.head (block (Alloc 0 g.subject.name places ∷ with_fetches b.fetches rest)) (line + 1)
-          ((line + 1) + step_lines k.head) names.lets head refl (λ m low less. head_free m (omega (arith, low)) (omega (arith, less))) inner (start (grid_binders k.grid)) first_known in
+          ((line + 1) + step_lines k.head) names.lets refl (λ m low less. head_free m (omega (arith, low)) (omega (arith, less))) inner (start (grid_binders k.grid)) (λ j m. absurd (cc m)) bound in
           subst (λ (s : Statement). EachClaim O R P [] s (body_line plan n) (start (grid_binders p.grid.items))) (sym b.with.is)
           (subst (λ (m : ℕ). ClaimsOf O R P [] code m (start (grid_binders p.grid.items))) (sym lined)
           (subst (λ (counts : List ℕ). ClaimsOf O R P [] code (line + 1) (start (grid_binders counts)))
           (sym (own_grid a sch l well legal small kept all groups n first line g p claims needs at there h)) shown))
+
+    -- so where each let of the head keeps what is so of the binders
+    pub body_each : (P : List Window → ℕ → ℕ → Known → Statement → ℕ → Type 0)
+        (fetched : (kept : List Window) (begin last : ℕ) (known : Known) (b h : ℕ) (r : List Span1) (c : ℕ) → P kept begin last known (Fetch b h r) c)
+        (B : List Binder → Type 0) (L : ℕ → Pick → List Form → Type 0) (bind : (i : ℕ) (pick : Pick) (fs : List Form) (bs : List Binder) → L i pick fs → B bs → B (Picked i pick fs ∷ bs)) →
+        Fits O R P fetched B L bind items named_claims line end places g.subject.name region g refl fs claim k.nests → LetsFirst L k.head → AllByRecursion (λ w. LetsFirst L w.steps) k.nests →
+        B (grid_binders k.grid) → EachClaim O R P [] (statement_of p.body) (body_line plan n) (start (grid_binders p.grid.items))
+    body_each P fetched B L bind fits head lets bound =
+        body_around P fetched B L bind fits lets
+        (lead_around O R P fetched B L bind items named_claims line end places g.subject.name region k.head names.lets head (grid_binders k.grid) bound)
 
     -- ---- where the tests say yes
 

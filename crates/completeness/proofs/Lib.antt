@@ -178,6 +178,7 @@ pub mod LatestSums
 pub mod TailLines
 pub mod TailBounds
 pub mod ShiftSeats
+pub mod HeadSeats
 pub mod TailSums
 pub mod TailTests
 pub mod TailNames

@@ -37,13 +37,13 @@ each_at P (x ∷ xs) h = (h 0 x refl, each_at P xs (λ i y e. h (suc i) y e))
 
 module _ (a : Algorithm) (s : Schedule) (fills : SplitsPlainly a s) where
   inners : InnersAreKept a s
-  inners = each_at (λ g. KeepsInner g.placed.loops g.placed.cuts) (stored_functions a s) (λ i g at. (fills.tailed i g at).inners)
+  inners = each_at (λ g. KeepsInner g.placed.loops g.placed.cuts) (stored_functions a s) (λ i g at. (fills.once i g at).inners)
 
   pub splits_once : SplitsOnce a s
-  splits_once = record { whole = fills.whole; once = λ i u at. (let mine = fills.tailed i u at in record { once = mine.once; inners = mine.inners }) }
+  splits_once = record { whole = fills.whole; once = fills.once }
 
   once : AllByRecursion (λ g. AreSplitOnce g.placed.cuts) (stored_functions a s)
-  once = each_at (λ g. AreSplitOnce g.placed.cuts) (stored_functions a s) (λ i g at. (fills.tailed i g at).once)
+  once = each_at (λ g. AreSplitOnce g.placed.cuts) (stored_functions a s) (λ i g at. (fills.once i g at).once)
 
 pub limits_alone : LimitsAloneAreTold
 limits_alone a s l well legal small regions groups fills named =
@@ -81,7 +81,7 @@ limits_alone a s l well legal small regions groups fills named =
         let x = from_map group_of l.plan.groups.items n g at in
         let me = made_at a s l well legal small (regions fills.whole).0 fills.whole groups n x.0 x.1 in
         elim (near_blocked_owed a s l well legal small regions groups fills.whole (named_no_load a named) lines_stand grids symbols near n g at me.stored me.is
-        (fills.tailed n me.stored me.is) me.formulas me.defined me.laid me.found (fills.placed n me.stored me.is me.formulas me.defined me.laid me.found)
+        (fills.once n me.stored me.is) me.formulas me.defined me.laid me.found (fills.placed n me.stored me.is me.formulas me.defined me.laid me.found)
         (fills.near n me.stored me.is me.formulas me.defined me.laid me.found)) [
           | inl shown ↦ inl (shown (slid_nests (outline_of p c n g) (rules_of a p c n) (domains_of a)) (slid_take a p c n g))
           | inr elsewhere ↦ inr elsewhere

@@ -183,6 +183,13 @@ LetsFirst L (Turns i x kind ∷ ts) = Unit {0}
 LetsFirst L (Named i pick fs ∷ ts) = L i pick fs × LetsFirst L ts
 LetsFirst L (Tested low high ∷ ts) = Unit {0}
 
+-- what lets bind around what is bound, the innermost first
+abbrev pub lets_around : List Step → List Binder → List Binder
+lets_around [] bs = bs
+lets_around (Turns i x kind ∷ ts) bs = lets_around ts bs
+lets_around (Named i pick fs ∷ ts) bs = lets_around ts (Picked i pick fs ∷ bs)
+lets_around (Tested low high ∷ ts) bs = lets_around ts bs
+
 -- of the lines from this one on, before another, these are all claims
 abbrev pub Lone : List CodeClaim → ℕ → ℕ → List CodeClaim → Type 0
 Lone items end line cs = (j : ℕ) (w : CodeClaim) → slice_get items j ≡ Some w → line ≤ w.line → w.line < end → In w cs
@@ -492,16 +499,26 @@ module _ (outline : Outline) (rules : Rules) (P : List Window → ℕ → ℕ �
     abbrev pub From : ℕ → Statements → Type 0
     From line code = (known : Known) → Sees known → Each [] code line known
 
-    pub lets_each : (ts : List Step) (inner : Statements) (line next : ℕ) → AreLets ts → Leading ts → next ≡ line + step_lines ts → ((m : ℕ) → line ≤ m → m < next → Free m) → From next inner →
-        From line (lines_to ts inner)
-    lets_each [] inner line next lets lead e free k known knows = (let is : next ≡ line = omega (arith, e) in subst (λ (m : ℕ). Each [] inner m known) is (k known knows))
-    lets_each (Turns i y kind ∷ ts) inner line next lets lead e free k known knows = absurd lets
-    lets_each (Named i pick fs ∷ ts) inner line next lets lead e free k known knows = (
+    -- with all lets of a group's head
+    pub lets_each : (ts : List Step) (inner : Statements) (line next : ℕ) → AreLets ts → next ≡ line + step_lines ts → ((m : ℕ) → line ≤ m → m < next → Free m) → From next inner →
+        (known : Known) → ((j : ℕ) → is_member j known.own ≡ true → Here j) → B (lets_around ts known.binders) → Each [] (lines_to ts inner) line known
+    lets_each [] inner line next lets e free k known own bound =
+        (let is : next ≡ line = omega (arith, e) in subst (λ (m : ℕ). Each [] inner m known) is (k known (record { own = own; bound = bound })))
+    lets_each (Turns i y kind ∷ ts) inner line next lets e free k known own bound = absurd lets
+    lets_each (Named i pick fs ∷ ts) inner line next lets e free k known own bound = (
       tt,
       none_named _ (line + 1 - 1) (free (line + 1 - 1) (omega arith) (omega (arith, e))),
-      lets_each ts inner (line + 1) next lets lead.1 (omega (arith, e)) (λ m low less. free m (omega (arith, low)) less) k _ (let_knows i pick fs (line + 1 - 1) known lead.0 knows),
+      lets_each ts inner (line + 1) next lets (omega (arith, e)) (λ m low less. free m (omega (arith, low)) less) k _
+          (λ j m. own_more [] known.own (is_left outline rules (Let i pick fs)) no_member own j m) bound,
     )
-    lets_each (Tested low high ∷ ts) inner line next lets lead e free k known knows = absurd lets
+    lets_each (Tested low high ∷ ts) inner line next lets e free k known own bound = absurd lets
+
+    -- where each let keeps what is so of the binders
+    pub lead_around : (ts : List Step) → AreLets ts → Leading ts → (bs : List Binder) → B bs → B (lets_around ts bs)
+    lead_around [] lets lead bs bound = bound
+    lead_around (Turns i y kind ∷ ts) lets lead bs bound = absurd lets
+    lead_around (Named i pick fs ∷ ts) lets lead bs bound = lead_around ts lets lead.1 (Picked i pick fs ∷ bs) (bind i pick fs bs lead.0 bound)
+    lead_around (Tested low high ∷ ts) lets lead bs bound = absurd lets
 
     -- behind the group's own buffer
     abbrev pub Holding : ℕ → Statements → Type 0

@@ -79,8 +79,9 @@ use Rattle.completeness.proofs.GridCounts.{IsShort, grid_few}
 use Rattle.completeness.proofs.BlockFacts.{halves_new, outers_apart, wholes_are, end_leaf, parallel_found, serial_none, inners_serial}
 use Rattle.completeness.proofs.BlockNames.{LeafOf}
 use Rattle.completeness.proofs.BlockDims.{top, part_uncut, end_uncut, claim_uncut, cut_once}
-use Rattle.completeness.proofs.TailDims.{end_of_all, all_of, kept_cap, counted, outer_low, outer_last, inner_low, inner_last, few_numbers, end_is, claim_is as block_claim_is, block_claim}
-use Rattle.completeness.proofs.TailDims.{block_places}
+use Rattle.completeness.proofs.TailDims.{shift_places, end_of_all, all_of, kept_cap, counted, outer_low, outer_last, inner_low, inner_last, few_numbers, end_is, claim_is as block_claim_is}
+use Rattle.completeness.proofs.TailDims.{block_claim}
+use Rattle.completeness.proofs.TailDims.{shift_places, block_places}
 use Rattle.completeness.proofs.TailSteps.{Line, Loop as LoopLine, Block as BlockLine, Pair as PairLine, is_loop}
 use Rattle.completeness.proofs.TailTurns.{Entry as TailEntry, entry_steps, is_shifted, keeps_rest, IsPair, IsBlock, IsEntry}
 use Rattle.completeness.proofs.TailSkeletons.{AreNamed, IsTailNest, AreTails, skeleton_tails}
@@ -305,7 +306,7 @@ module _ (a : Algorithm) (sch : Schedule) (l : Lowered) (well : IsAlgorithm a) (
         of (suc m) q (inr w) = (let clash : Some f ≡ None = sym e ∙ w.named in absurd (cc clash))
         of (suc m) q (inl w) = (w.symbol, cc (sym e ∙ w.named), w.low, parallel_found y ls (omega (arith, q)))
 
-    outers_there : (c : Split) → In c cuts → (f : Form) → form_named grid c.outer ≡ Some f → (s : ℕ) × (f ≡ counted_from (pos 0) s) × (s < length (piece_counts rs ls))
+    pub outers_there : (c : Split) → In c cuts → (f : Form) → form_named grid c.outer ≡ Some f → (s : ℕ) × (f ≡ counted_from (pos 0) s) × (s < length (piece_counts rs ls))
     outers_there c m f e =
         let r = grids c.outer f e in
         let fit = fit_of c.whole (wholes c m) in
@@ -572,6 +573,21 @@ module _ (a : Algorithm) (sch : Schedule) (l : Lowered) (well : IsAlgorithm a) (
           ap (λ (q : _). (dimension_by lay c.whole cuts q).claim) is ∙ block_claim rs c (fits c m) fit.0 fit.1 plain lay refl s o.rest o.inner_end,
           ap (λ (q : _). (dimension_by lay c.whole cuts q).places) is ∙ block_places rs c (fits c m) fit.0 fit.1 plain lay refl s o.rest o.inner_end c.whole cuts,
         )
+      where
+        block_text : (c : Split) → In c cuts → ℕ → List Split → BlockText
+        block_text c m s rest =
+            blocks_by lay c rest (record { start = counted_from (pos 0) s; length = pos 1; own_limits = []; claim_limits = []; origin = Some (counted_from (pos 0) s); reach = pos 1 }) (num c.whole)
+
+    -- of such a one with `shift`: a block that begins where its let says
+    pub dim_shift : (c : Split) (m : In c cuts) (s : ℕ) → form_named grid c.outer ≡ Some (counted_from (pos 0) s) → is_shifted c ≡ true → (f : Form) → form_named k.starts c.whole ≡ Some f →
+        place c.whole ≡ From f c.factor
+    dim_shift c m s e shifted f start =
+        let fit = fit_of c.whole (wholes c m) in
+        let o = cut_once lay cuts others once c m in
+        let outer = uncut_grid c.outer (counted_from (pos 0) s) e in
+        let inner = uncut_serial c.inner (inners_serial ls cuts keeps c m) in
+        let is : part_of lay c.whole cuts ≡ Run (block_text c m s o.rest) = o.part ∙ (λ j. joined lay c o.rest (outer j) (inner j)) in
+        ap (λ (q : _). (dimension_by lay c.whole cuts q).places) is ∙ shift_places rs c (fits c m) fit.0 fit.1 shifted lay refl s o.rest o.inner_end f start c.whole cuts
       where
         block_text : (c : Split) → In c cuts → ℕ → List Split → BlockText
         block_text c m s rest =

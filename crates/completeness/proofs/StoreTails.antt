@@ -1,13 +1,13 @@
 -- At the stores of functions whose loops are split once, with any tail, in any order, each coordinate is a number of 32 bits, has a place and, of updates, lies in the claims' region.
 use Rattle.std.proofs.Common.{◌≡◌, ℕ, zero, suc, ◌+◌, ◌<◌, ◌≤◌, ◌^◌, Bool, true, false, ◌&&◌, List, [], ◌∷◌, ◌++◌, length, map, Option, Some, None, refl, sym, ap, ◌∙◌, subst, inl, inr, arith}
-use Rattle.std.specs.Prelude.{ℤ, pos, ◌+ℤ◌, ◌≤ℤ◌, nat_lt, slice_get, Any}
+use Rattle.std.specs.Prelude.{ℤ, pos, ◌+ℤ◌, ◌≤ℤ◌, nat_lt, if◌then◌else◌, slice_get, Any}
 use Rattle.std.specs.List.{AllByRecursion}
 use Rattle.std.specs.Int.RustNames.{unsigned_abs}
 use Rattle.std.proofs.lemmas.Bool.Decides.{nat_tests}
 use Rattle.std.proofs.lemmas.Int.{ints}
 use Rattle.std.proofs.lemmas.List.{length-map}
 use Rattle.std.proofs.lemmas.Option.{slice_get_within}
-use Rattle.lin.specs.Forms.{Form}
+use Rattle.lin.specs.Forms.{Form, number, combined}
 use Rattle.lin.specs.declared.scope.Binding.{Binding}
 use Rattle.lin.specs.declared.scope.Binding.TheVariants.{LetMin}
 use Rattle.lin.specs.declared.span.Span1.{Span1}
@@ -27,6 +27,16 @@ use Rattle.soundness.specs.Obligations.{Known as KnownHere, Rules, exactly}
 use Rattle.rules.specs.Bounding.Rules.{is_index_span, rules_of}
 use Rattle.rules.specs.Bounding.Scopes.{scope_of}
 use Rattle.headline.proofs.Lists.{at_map}
+use Rattle.meaning.specs.Names.{same_name}
+use Rattle.soundness.proofs.Refines.{name_true}
+use Rattle.std.specs.List.{find}
+use Rattle.std.specs.Option.{option_map}
+use Rattle.lin.specs.declared.form.Multiple.{Multiple}
+use Rattle.lin.proofs.Limits.{combined-means}
+use Rattle.completeness.proofs.Searched.{one_of}
+use Rattle.completeness.proofs.BlockSums.{start_is}
+use Rattle.completeness.proofs.Halves.{by_whole}
+use Rattle.plan.specs.declared.stmt.Places.TheVariants.{From}
 use Rattle.sched.specs.Schedule.{Schedule}
 use Rattle.sched.specs.Legal.{IsLegal, said, loops_after}
 use Rattle.sched.specs.declared.error.Rule.TheVariants as rule
@@ -41,7 +51,7 @@ use Rattle.sched.specs.declared.skeleton.Step.{Step}
 use Rattle.sched.specs.declared.skeleton.Step.TheVariants.{Turns, Named, Tested}
 use Rattle.sched.specs.declared.nest.Turning.{Turning}
 use Rattle.sched.specs.Numbers.{numbers_named, loop_numbers, parallel_loops, grid_counts, piece_counts, last_number, or_one, is_too_short}
-use Rattle.sched.specs.Standing.{form_named, counted_from, has_rest}
+use Rattle.sched.specs.Standing.{form_named, alone, counted_from, has_rest, room}
 use Rattle.sched.specs.Skeleton.{BodyText, NestText, SkeletonText, nest_turns, ranges_at, variables_at, grid_forms, range_turning}
 use Rattle.sched.proofs.Standings.{found_all}
 use Rattle.lower.specs.declared.lowering.Lowered.{Lowered}
@@ -64,17 +74,16 @@ use Rattle.completeness.proofs.Defined.{other_put}
 use Rattle.completeness.proofs.Owned.{some_same}
 use Rattle.completeness.proofs.Served.{roots}
 use Rattle.completeness.proofs.Standing.{AreLets, Rises, names_own}
-use Rattle.completeness.proofs.PureNests.{all_in, loop_name}
-use Rattle.completeness.proofs.PlainTurns.{hits}
+use Rattle.completeness.proofs.PureNests.{all_in}
 use Rattle.completeness.proofs.PlainNests.{grid_place}
-use Rattle.completeness.proofs.GridTurns.{grid_none}
 use Rattle.completeness.proofs.RegionBounds.{IsEnded}
 use Rattle.completeness.proofs.StoreBounds.{steps_keep}
 use Rattle.completeness.proofs.PlacedStores.{IsRightForm, IsReadyNest}
 use Rattle.completeness.proofs.TailDims.{full_last}
 use Rattle.completeness.proofs.StepsThere.{let_tells, step_there, steps_long, entries_rise, entry_tells, entry_told}
-use Rattle.completeness.proofs.TailSteps.{is_loop}
-use Rattle.completeness.proofs.TailTurns.{Entry, entry_steps, is_shifted, Right, IsTurn, IsLet, IsEntry}
+use Rattle.completeness.proofs.TailSteps.{Line, Block, is_loop}
+use Rattle.completeness.proofs.TailTurns.{Entry, entry_steps, let_of, Leaf, IsBegun, IsWhole, Right, IsTurn, IsLet, IsEntry}
+use Rattle.sched.specs.Placing.{is_shifted}
 use Rattle.completeness.proofs.TailSkeletons.{IsTailNest, AreTails}
 use Rattle.completeness.proofs.TailReady.{blocks_ended, blocks_end, right_of, over_of}
 use Rattle.completeness.proofs.StoreShapes as shapes_of
@@ -118,6 +127,49 @@ room_for rs c e long = of (nat_lt (numbers_named rs c.whole).count c.factor) ref
         absurd (cc clash)
     of false q = grind (arith, nat_tests, q)
 
+abbrev first_symbol : List Multiple → ℕ
+first_symbol [] = 0
+first_symbol (t ∷ more) = t.symbol
+
+abbrev symbol_of : Form → ℕ
+symbol_of f = first_symbol f.terms
+
+abbrev step_symbol : Step → ℕ
+step_symbol (Named s pick (f ∷ more)) = symbol_of f
+step_symbol _ = 0
+
+-- a symbol of the grid is that of one loop
+module _ (rs : List Numbers) where
+  grid_at : (s : ℕ) (os : List Loop) (x : List ℕ) (f : Form) → form_named (grid_forms rs s os) x ≡ Some f →
+      (j : ℕ) × (o : Loop) × (slice_get os j ≡ Some o) × (o.name ≡ x) × (symbol_of f ≡ s + j)
+  grid_at s [] x f e = absurd (cc e)
+  grid_at s (o ∷ os) x f e = of (same_name o.name x) refl e (grid_at (s + 1) os x f)
+    where
+      of : (b : Bool) → same_name o.name x ≡ b →
+          option_map (λ (k : Known). k.form) (if b then Some (record { name = o.name; form = counted_from (numbers_named rs o.name).low s })
+          else find (λ (k : Known). same_name k.name x) (grid_forms rs (s + 1) os)) ≡ Some f →
+          (form_named (grid_forms rs (s + 1) os) x ≡ Some f → (j : ℕ) × (v : Loop) × (slice_get os j ≡ Some v) × (v.name ≡ x) × (symbol_of f ≡ (s + 1) + j)) →
+          (j : ℕ) × (v : Loop) × (slice_get (o ∷ os) j ≡ Some v) × (v.name ≡ x) × (symbol_of f ≡ s + j)
+      of true name q rest =
+          let form : counted_from (numbers_named rs o.name).low s ≡ f = cc q in
+          (0, o, refl, name_true o.name x name, ap symbol_of (sym form) ∙ omega arith)
+      of false name q rest = (let r = rest q in let place = r.4 in (suc r.0, r.1, r.2, r.3, omega (arith, place)))
+
+  same_over : (os : List Loop) (x y : List ℕ) (f : Form) → form_named (grid_forms rs 0 os) x ≡ Some f → form_named (grid_forms rs 0 os) y ≡ Some f → x ≡ y
+  same_over os x y f e d =
+      let a = grid_at 0 os x f e in
+      let b = grid_at 0 os y f d in
+      let first_place = a.4 in
+      let second_place = b.4 in
+      let place : a.0 ≡ b.0 = omega (arith, first_place, second_place) in
+      let both : Some a.1 ≡ Some b.1 = sym a.2 ∙ ap (slice_get os) place ∙ b.2 in
+      let loops : a.1 ≡ b.1 = cc both in
+      sym a.3 ∙ ap (λ (o : Loop). o.name) loops ∙ b.3
+
+abbrev is_block : Line → Bool
+is_block (Block f z) = true
+is_block _ = false
+
 shifted_in : (cs : List Split) (c : Split) → In c cs → c.tail ≡ Shift → Any (λ c. c.tail ≡ Shift) cs
 shifted_in [] c m e = absurd m
 shifted_in (d ∷ cs) c (inl q) e = (0, d, omega arith, refl, subst (λ (y : Split). y.tail ≡ Shift) q e)
@@ -144,7 +196,6 @@ module _ (a : Algorithm) (sch : Schedule) (l : Lowered) (well : IsAlgorithm a) (
       (placed : (j : ℕ) (v : CodeClaim) → slice_get claims j ≡ Some v → slice_get items (first + j) ≡ Some v)
       (alone_here : (j : ℕ) (w : CodeClaim) → slice_get items j ≡ Some w → line < w.line → w.line < line + (lines (statement_of p.body) + 1) → In w claims)
       (laid : IsLaidBy g h.extents h.skeleton) (split_alone : AreSplitOnce g.placed.cuts) (keeps : KeepsInner g.placed.loops g.placed.cuts)
-      (shifts : AllByRecursion (λ c. is_shifted c ≡ true → hits loop_name c.outer (parallel_loops g.placed.loops) ≡ 0) g.placed.cuts)
       (roomy_all : AllByRecursion (λ c. is_too_short (loop_numbers g.subject.variables g.placed.cuts h.extents) c ≡ false) g.placed.cuts) (ended : AllByRecursion IsEnded h.extents) where
     abbrev k : SkeletonText
     k = h.skeleton
@@ -227,11 +278,32 @@ module _ (a : Algorithm) (sch : Schedule) (l : Lowered) (well : IsAlgorithm a) (
     roomy : (c : Split) → In c cuts → is_shifted c ≡ true → c.factor ≤ (numbers_named rs c.whole).count
     roomy c m e = room_for rs c e (all_in (λ c. is_too_short rs c ≡ false) cuts c roomy_all m)
 
-    no_shift_over : {A : Type 0} (c : Split) → In c cuts → is_shifted c ≡ true → (f : Form) → form_named grid c.outer ≡ Some f → A
-    no_shift_over c m e f over =
-        let none = grid_none rs c.outer 0 (parallel_loops ls) (all_in (λ c. is_shifted c ≡ true → hits loop_name c.outer (parallel_loops ls) ≡ 0) cuts c shifts m e) in
-        let clash : Some f ≡ None = sym over ∙ none in
-        absurd (cc clash)
+    outers_here : (c : Split) → In c cuts → (f : Form) → form_named grid c.outer ≡ Some f → (s : ℕ) × (f ≡ counted_from (pos 0) s) × (s < base)
+    outers_here c m f e = shapes_of.outers_there a sch l well legal small kept all groups n first line g p claims needs at there h lined placed alone_here laid split_alone keeps c m f e
+
+    -- where a block begins that is the turn of a loop with this symbol
+    begins_at : (c : Split) → In c cuts → (s : ℕ) (outer f : Form) → outer ≡ counted_from (pos 0) s → combined (number (low c.whole)) (pos c.factor) outer ≡ Some f →
+        f ≡ one_of (low c.whole) (pos c.factor) s
+    begins_at c m s outer f is begins =
+        (combined-means (number (low c.whole)) (pos c.factor) (alone s) f (ap (combined (number (low c.whole)) (pos c.factor)) (sym is) ∙ begins)).is
+        ∙ start_is (low c.whole) c.factor s (shapes_of.fits a sch l well legal small kept all groups n first line g p claims needs at there h lined placed alone_here laid split_alone keeps c m).some
+
+    -- the let of a split over the grid is where its blocks begin
+    start_named : (c : Split) → In c cuts → (outer first_here : Form) → form_named grid c.outer ≡ Some outer → combined (number (low c.whole)) (pos c.factor) outer ≡ Some first_here → (j :
+        ℕ) (z : ℤ) →
+        slice_get k.head j ≡ Some (Named (base + j) Min (first_here ∷ number z ∷ [])) → form_named k.starts c.whole ≡ Some (alone (base + j))
+    start_named c m outer first_here over begins j z at_j =
+        let both = shape_here.firsts j (Named (base + j) Min (first_here ∷ number z ∷ [])) at_j in
+        let r = both.0 in
+        let o = outers_here c m outer over in
+        let b = outers_here r.split r.among r.outer r.by_outer in
+        let symbols : o.0 ≡ b.0 = sym (ap symbol_of (begins_at c m o.0 outer first_here o.1 begins)) ∙ ap step_symbol r.is ∙ ap symbol_of (begins_at r.split r.among b.0 r.outer r.form b.1 r.begins) in
+        let names : r.split.outer ≡ c.outer =
+        same_over rs (parallel_loops ls) r.split.outer c.outer (counted_from (pos 0) b.0) (r.by_outer ∙ ap (λ (f : Form). Some f) b.1)
+        (over ∙ ap (λ (f : Form). Some f) (o.1 ∙ ap (counted_from (pos 0)) symbols)) in
+        let same_split : r.split ≡ c = shapes_of.outers a sch l well legal small kept all groups n first line g p claims needs at there h lined placed alone_here laid split_alone keeps
+        r.split c r.among m names in
+        subst (λ (d : Split). form_named k.starts d.whole ≡ Some (alone (base + j))) same_split both.1
 
     -- no update is shifted
     pure_here : (d : ℕ) (u : FormulaText) → slice_get fs d ≡ Some u → (c : Split) → In c cuts → is_shifted c ≡ true → d ≡ 0
@@ -349,8 +421,88 @@ module _ (a : Algorithm) (sch : Schedule) (l : Lowered) (well : IsAlgorithm a) (
             or_one_at [] j m e = absurd (cc e)
             or_one_at (n ∷ ns) j m e = e
 
-        no_head : {A : Type 0} (j : ℕ) (step : Step) → slice_get k.head j ≡ Some step → A
-        no_head j step e = (let r = shape_here.heads j step e in no_shift_over r.split r.among r.shifted r.outer r.by_outer)
+        -- a shifted split over the grid has its places where its let is
+        shift_over : (y : List ℕ) (f : Form) (u : IsWhole cuts (shapes_of.others a sch l well legal small kept all groups n first line g p claims needs at there h lined placed alone_here
+            laid split_alone keeps) (shapes_of.once a sch l well legal small kept all groups n first line g p claims needs at there h lined placed alone_here laid split_alone keeps) rs grid
+            base k.head q.next es y f) → is_shifted u.split ≡ true → (outer : Form) → form_named grid u.split.outer ≡ Some outer →
+            place_named u.split.whole ≡ From u.start u.split.factor
+        shift_over y f u shifted outer over = of u.begun
+          where
+            c : Split
+            c = u.split
+
+            o : (s : ℕ) × (outer ≡ counted_from (pos 0) s) × (s < base)
+            o = outers_here c u.there outer over
+
+            -- the outer loop stands over the grid, not in the nest
+            off : (i : ℕ) (e : Entry) → slice_get es i ≡ Some e → is_loop e.line ≡ true → e.turning.name ≡ c.outer → ⊥
+            off i e at_e loop name =
+                let t = turn_of i e at_e loop in
+                let none = (shapes_of.named_here a sch l well legal small kept all groups n first line g p claims needs at there h lined placed alone_here laid split_alone keeps d q.body
+                q.at).off_grid t.place e.turning t.there in
+                let clash : Some outer ≡ None = sym over ∙ ap (form_named grid) (sym name) ∙ none in
+                cc clash
+
+            outer_is : Leaf cuts (shapes_of.others a sch l well legal small kept all groups n first line g p claims needs at there h lined placed alone_here laid split_alone keeps)
+                (shapes_of.once a sch l well legal small kept all groups n first line g p claims needs at there h lined placed alone_here laid split_alone keeps) rs grid base k.head q.next
+                es c.outer u.outer → u.outer ≡ outer
+            outer_is (inl there_too) = (let some : Some u.outer ≡ Some outer = sym there_too ∙ over in cc some)
+            outer_is (inr (i, e, at_e, loop, name, is)) = absurd (off i e at_e loop name)
+
+            begins_so : combined (number (low c.whole)) (pos c.factor) outer ≡ Some u.first
+            begins_so = ap (combined (number (low c.whole)) (pos c.factor)) (sym (outer_is u.by_outer)) ∙ u.begins
+
+            placed_at : (j : ℕ) → slice_get k.head j ≡ Some (Named (base + j) Min (u.first ∷ number (room (numbers_named rs c.whole) c.factor) ∷ [])) →
+                place_named c.whole ≡ From (alone (base + j)) c.factor
+            placed_at j at_j =
+                shapes_of.dim_shift a sch l well legal small kept all groups n first line g p claims needs at there h lined placed alone_here laid split_alone keeps c u.there o.0 (over ∙ ap
+                (λ (g : Form). Some g) o.1) shifted (alone (base + j))
+                (start_named c u.there outer u.first over begins_so j (room (numbers_named rs c.whole) c.factor) at_j)
+
+            -- no let of the nest is such a one
+            no_block : (i : ℕ) (e : Entry) → slice_get es i ≡ Some e → e.turning ≡ let_of rs c → e.line ≡ Block u.first (room (numbers_named rs c.whole) c.factor) → ⊥
+            no_block i e at_e turning line_is = by (q.each i e at_e)
+              where
+                by : IsEntry cuts (shapes_of.others a sch l well legal small kept all groups n first line g p claims needs at there h lined placed alone_here laid split_alone keeps)
+                    (shapes_of.once a sch l well legal small kept all groups n first line g p claims needs at there h lined placed alone_here laid split_alone keeps) rs grid base k.head
+                    q.next es ts i e → ⊥
+                by (inl t) = (let clash : true ≡ false = sym t.loop ∙ ap is_loop line_is in cc clash)
+                by (inr t) = elim t.kind [
+                  | inl b ↦
+                      (let wholes_same : t.split.whole ≡ c.whole = ap (λ (z : Turning). z.name) (sym t.turning ∙ turning) in
+                      let same_split : t.split ≡ c = by_whole cuts (shapes_of.others a sch l well legal small kept all groups n first line g p claims needs at there h lined placed
+                      alone_here laid split_alone keeps) t.split c t.among u.there wholes_same in
+                      off b.outer_at b.outer b.outer_there b.outer_loop (b.outer_name ∙ ap (λ (z : Split). z.outer) same_split))
+                  | inr r ↦ (let clash : true ≡ false = ap is_block (sym line_is ∙ r.4) in cc clash)
+                ]
+
+            of : IsBegun cuts (shapes_of.others a sch l well legal small kept all groups n first line g p claims needs at there h lined placed alone_here laid split_alone keeps)
+                (shapes_of.once a sch l well legal small kept all groups n first line g p claims needs at there h lined placed alone_here laid split_alone keeps) rs grid base k.head q.next
+                es c u.first u.start → place_named c.whole ≡ From u.start c.factor
+            of (inl plain) = (let clash : true ≡ false = sym shifted ∙ plain.0 in absurd (cc clash))
+            of (inr (told, s, inl (j, at_j, place), is)) = placed_at j at_j ∙ ap (λ (m : ℕ). From (alone m) c.factor) (sym place) ∙ ap (λ (g : Form). From g c.factor) (sym is)
+            of (inr (told, s, inr (i, at_e, place), is)) = absurd (no_block i _ at_e refl refl)
+
+        -- a let of the head is over the form of a loop of the grid
+        head_over : (y : List ℕ) (f : Form) (u : IsWhole cuts (shapes_of.others a sch l well legal small kept all groups n first line g p claims needs at there h lined placed alone_here
+            laid split_alone keeps) (shapes_of.once a sch l well legal small kept all groups n first line g p claims needs at there h lined placed alone_here laid split_alone keeps) rs grid
+            base k.head q.next es y f) (j i : ℕ) (z : ℤ) → slice_get k.head j ≡ Some (Named i Min (u.first ∷ number z ∷ [])) →
+            (c : Form) × (form_named grid u.split.outer ≡ Some c)
+        head_over y f u j i z at_j = of u.by_outer
+          where
+            of : Leaf cuts (shapes_of.others a sch l well legal small kept all groups n first line g p claims needs at there h lined placed alone_here laid split_alone keeps)
+                (shapes_of.once a sch l well legal small kept all groups n first line g p claims needs at there h lined placed alone_here laid split_alone keeps) rs grid base k.head q.next
+                es u.split.outer u.outer → (c : Form) × (form_named grid u.split.outer ≡ Some c)
+            of (inl over) = (u.outer, over)
+            of (inr (o, e, at_e, loop, name, is)) =
+                let r = shape_here.heads j (Named i Min (u.first ∷ number z ∷ [])) at_j in
+                let b = outers_here r.split r.among r.outer r.by_outer in
+                let symbols : q.next + o ≡ b.0 =
+                sym (ap symbol_of (begins_at u.split u.there (q.next + o) u.outer u.first is u.begins)) ∙ ap step_symbol r.is ∙ ap symbol_of (begins_at r.split r.among b.0 r.outer r.form
+                b.1 r.begins) in
+                let less = b.2 in
+                let least = q.low in
+                absurd (omega (arith, symbols, less, least))
 
         pure_in : (c : Split) → In c cuts → is_shifted c ≡ true → d ≡ 0
         pure_in = (let f = shapes_of.formula_here a sch l well legal small kept all groups n first line g p claims needs at there h lined placed alone_here laid split_alone keeps d q.body
@@ -375,9 +527,9 @@ module _ (a : Algorithm) (sch : Schedule) (l : Lowered) (well : IsAlgorithm a) (
             (shapes_of.grids a sch l well legal small kept all groups n first line g p claims needs at there h lined placed alone_here laid split_alone keeps x (counted_from (low x) s) e).3)
             (shapes_of.dim_loop a sch l well legal small kept all groups n first line g p claims needs at there h lined placed alone_here laid split_alone keeps) (shapes_of.dim_block a sch
             l well legal small kept all groups n first line g p claims needs at there h lined placed alone_here laid split_alone keeps)
-            (λ y f u e outer over. no_shift_over u.split u.there e outer over) (shapes_of.dim_split a sch l well legal small kept all groups n first line g p claims needs at there h lined
+            shift_over (shapes_of.dim_split a sch l well legal small kept all groups n first line g p claims needs at there h lined
             placed alone_here laid split_alone keeps)
-            (λ y f u j i z e. no_head j _ e) d pure_in known grid_there head_there q.low entry_there
+            head_over d pure_in known grid_there head_there q.low entry_there
             x m f (found_all (Right cuts (shapes_of.others a sch l well legal small kept all groups n first line g p claims needs at there h lined placed alone_here laid split_alone keeps)
             (shapes_of.once a sch l well legal small kept all groups n first line g p claims needs at there h lined placed alone_here laid split_alone keeps) rs grid base k.head q.next
             es) q.known x f q.right named)
@@ -401,9 +553,9 @@ module _ (a : Algorithm) (sch : Schedule) (l : Lowered) (well : IsAlgorithm a) (
             (shapes_of.grids a sch l well legal small kept all groups n first line g p claims needs at there h lined placed alone_here laid split_alone keeps x (counted_from (low x) s) e).3)
             (shapes_of.dim_loop a sch l well legal small kept all groups n first line g p claims needs at there h lined placed alone_here laid split_alone keeps) (shapes_of.dim_block a sch
             l well legal small kept all groups n first line g p claims needs at there h lined placed alone_here laid split_alone keeps)
-            (λ y f u e outer over. no_shift_over u.split u.there e outer over) (shapes_of.dim_split a sch l well legal small kept all groups n first line g p claims needs at there h lined
+            shift_over (shapes_of.dim_split a sch l well legal small kept all groups n first line g p claims needs at there h lined
             placed alone_here laid split_alone keeps)
-            (λ y f u j i z e. no_head j _ e) d pure_in known grid_there head_there q.low entry_there
+            head_over d pure_in known grid_there head_there q.low entry_there
             x (λ y leaf e. shapes_of.reduction_apart a sch l well legal small kept all groups n first line g p claims needs at there h lined placed alone_here laid split_alone keeps d
             q.body q.at x y m leaf e) off few_at f
             (found_all (Right cuts (shapes_of.others a sch l well legal small kept all groups n first line g p claims needs at there h lined placed alone_here laid split_alone keeps)

@@ -181,7 +181,7 @@ module _ (line : ℕ → Line) (lim : ℕ → List Form) where
   line_counts (Block f z) n t fs bs = (omega arith, omega arith)
   line_counts (Pair f z) n t fs bs = (omega arith, omega arith)
 
-  skips : (n : ℕ) (ts : List Turning) (bs : List Binder) (s : ℕ) → s < n → binding_of (inner_of n ts bs) s ≡ binding_of bs s
+  pub skips : (n : ℕ) (ts : List Turning) (bs : List Binder) (s : ℕ) → s < n → binding_of (inner_of n ts bs) s ≡ binding_of bs s
   skips n [] bs s less = refl
   skips n (t ∷ ts) bs s less =
       let differs : (n == s) ≡ false = grind (arith, nat_tests) in
@@ -200,7 +200,7 @@ module _ (line : ℕ → Line) (lim : ℕ → List Form) where
       (λ i. binding_of (inner_next n u ts bs i) (next i)) ∙ tells (n + 1) ts (line_binders (line n) (item_of n u) (lim n) ++ bs) j t at
       ∙ ap (λ (m : ℕ). line_binding (line m) t (lim m)) (sym next)
 
-  count_more : (n : ℕ) (ts : List Turning) (bs : List Binder) → symbol_count bs ≤ symbol_count (inner_of n ts bs)
+  pub count_more : (n : ℕ) (ts : List Turning) (bs : List Binder) → symbol_count bs ≤ symbol_count (inner_of n ts bs)
   count_more n [] bs = omega arith
   count_more n (t ∷ ts) bs =
       let rest = count_more (n + 1) ts (line_binders (line n) (item_of n t) (lim n) ++ bs) in

@@ -209,6 +209,49 @@ module _ (rs : List Numbers) (c : Split) (fits : CutFits rs c) (small : IsSmall 
       of Roundup = steps_are (difference (factor_of c) (pos 1)) full
       of Shift = refl
 
+  -- ---- a block
+
+  module _ (l : LayText) (is : l.numbers ≡ rs) (s : ℕ) (rest : List Split) (inner_end : end_of l.numbers c.inner rest ≡ last_number (numbers_named l.numbers c.inner)) where
+    -- the turn of the parallel outer loop
+    abbrev turn_of : BlockText
+    turn_of = record { start = counted_from (pos 0) s; length = pos 1; own_limits = []; claim_limits = []; origin = Some (counted_from (pos 0) s); reach = pos 1 }
+
+    abbrev block_of : BlockText
+    block_of = blocks_by l c rest turn_of own
+
+    start_so : block_of.start ≡ one_of own.low (pos c.factor) s
+    start_so = start_is own.low c.factor s fits.some
+
+    one_factor : product (factor_of c) (pos 1) ≡ pos c.factor
+    one_factor = (let wide = fits.few in ap nearest (one_time (pos c.factor)) ∙ nearest_of_small (pos c.factor) (omega (arith, ints)) (omega (arith, ints, wide)))
+      where
+        one_time : (z : ℤ) → z *ℤ pos 1 ≡ z
+        one_time z = omega (arith, ints)
+
+    size_less : difference (product (factor_of c) (pos 1)) (pos 1) ≡ pos c.factor -ℤ pos 1
+    size_less =
+        let wide = fits.few in
+        let size = fits.some in
+        ap (λ (z : ℤ). nearest (z -ℤ pos 1)) one_factor ∙ nearest_of_small (pos c.factor -ℤ pos 1) (omega (arith, ints, size)) (omega (arith, ints, wide))
+
+    -- the first number, the last one of a full block, and what is kept
+    claim_by : (cap : List Form) → with_last [] (claim_last c own) ≡ cap → block_span block_of.start block_of.length block_of.claim_limits
+        ≡ record { lower = one_of own.low (pos c.factor) s ∷ []; upper = one_of ((pos c.factor -ℤ pos 1) +ℤ own.low) (pos c.factor) s ∷ cap }
+    claim_by cap limits =
+        let there = some_factor c.factor fits.some in
+        let once : pos 1 *ℤ pos c.factor ≡ pos c.factor = omega (arith, ints) in
+        let up : (pos c.factor -ℤ pos 1) +ℤ pos 1 *ℤ own.low ≡ (pos c.factor -ℤ pos 1) +ℤ own.low = ap (λ (z : ℤ). (pos c.factor -ℤ pos 1) +ℤ z) (one_time own.low) in
+        (λ j. block_span (start_so j) block_of.length (limits j))
+        ∙ ap (λ (z : ℤ). record { lower = one_of own.low (pos c.factor) s ∷ []; upper = raised (one_of own.low (pos c.factor) s) z ∷ cap }) size_less
+        ∙ (λ j. record { lower = one_of own.low (pos c.factor) s ∷ []; upper = record { constant = up j; terms = in_front (multiple s (once j)) [] } ∷ cap })
+        ∙ (λ j. record {
+          lower = one_of own.low (pos c.factor) s ∷ [];
+          upper = record { constant = (pos c.factor -ℤ pos 1) +ℤ own.low; terms = if there j then [] else multiple s (pos c.factor) ∷ [] } ∷ cap;
+        })
+      where
+        one_time : (z : ℤ) → pos 1 *ℤ z ≡ z
+        one_time z = omega (arith, ints)
+
   -- ---- a block, which is not shifted
 
   module _ (plain : is_shifted c ≡ false) where
@@ -228,47 +271,18 @@ module _ (rs : List Numbers) (c : Split) (fits : CutFits rs c) (small : IsSmall 
     module _ (l : LayText) (is : l.numbers ≡ rs) (s : ℕ) (rest : List Split) (inner_end : end_of l.numbers c.inner rest ≡ last_number (numbers_named l.numbers c.inner)) where
       -- the turn of the parallel outer loop
       abbrev outer : BlockText
-      outer = record { start = counted_from (pos 0) s; length = pos 1; own_limits = []; claim_limits = []; origin = Some (counted_from (pos 0) s); reach = pos 1 }
+      outer = turn_of l is s rest inner_end
 
       abbrev b : BlockText
-      b = blocks_by l c rest outer own
-
-      start_so : b.start ≡ one_of own.low (pos c.factor) s
-      start_so = start_is own.low c.factor s fits.some
-
-      one_factor : product (factor_of c) (pos 1) ≡ pos c.factor
-      one_factor = (let wide = fits.few in ap nearest (one_time (pos c.factor)) ∙ nearest_of_small (pos c.factor) (omega (arith, ints)) (omega (arith, ints, wide)))
-        where
-          one_time : (z : ℤ) → z *ℤ pos 1 ≡ z
-          one_time z = omega (arith, ints)
-
-      size_less : difference (product (factor_of c) (pos 1)) (pos 1) ≡ pos c.factor -ℤ pos 1
-      size_less =
-          let wide = fits.few in
-          let size = fits.some in
-          ap (λ (z : ℤ). nearest (z -ℤ pos 1)) one_factor ∙ nearest_of_small (pos c.factor -ℤ pos 1) (omega (arith, ints, size)) (omega (arith, ints, wide))
+      b = block_of l is s rest inner_end
 
       -- the first number, the last one of a full block, and that of the loop
       pub block_claim : block_span b.start b.length b.claim_limits
           ≡ record { lower = one_of own.low (pos c.factor) s ∷ []; upper = one_of ((pos c.factor -ℤ pos 1) +ℤ own.low) (pos c.factor) s ∷ kept_cap }
-      block_claim =
-          let limits = cap_is in
-          let there = some_factor c.factor fits.some in
-          let once : pos 1 *ℤ pos c.factor ≡ pos c.factor = omega (arith, ints) in
-          let up : (pos c.factor -ℤ pos 1) +ℤ pos 1 *ℤ own.low ≡ (pos c.factor -ℤ pos 1) +ℤ own.low = ap (λ (z : ℤ). (pos c.factor -ℤ pos 1) +ℤ z) (one_time own.low) in
-          (λ j. block_span (start_so j) b.length (limits j))
-          ∙ ap (λ (z : ℤ). record { lower = one_of own.low (pos c.factor) s ∷ []; upper = raised (one_of own.low (pos c.factor) s) z ∷ kept_cap }) size_less
-          ∙ (λ j. record { lower = one_of own.low (pos c.factor) s ∷ []; upper = record { constant = up j; terms = in_front (multiple s (once j)) [] } ∷ kept_cap })
-          ∙ (λ j. record {
-            lower = one_of own.low (pos c.factor) s ∷ [];
-            upper = record { constant = (pos c.factor -ℤ pos 1) +ℤ own.low; terms = if there j then [] else multiple s (pos c.factor) ∷ [] } ∷ kept_cap;
-          })
-        where
-          one_time : (z : ℤ) → pos 1 *ℤ z ≡ z
-          one_time z = omega (arith, ints)
+      block_claim = claim_by l is s rest inner_end kept_cap cap_is
 
       origin_is : b.origin ≡ Some (one_of own.low (pos c.factor) s)
-      origin_is = of c.tail plain ∙ ap (λ (f : Form). Some f) start_so
+      origin_is = of c.tail plain ∙ ap (λ (f : Form). Some f) (start_so l is s rest inner_end)
         where
           of : (tail : Tail) → Unshifted tail → (elim tail [
             | Guard ↦ option_map (multiple_from own.low (factor_of c)) outer.origin
@@ -319,3 +333,65 @@ module _ (rs : List Numbers) (c : Split) (fits : CutFits rs c) (small : IsSmall 
           let origin = origin_is in
           let reach = reach_is in
           λ j. places_by l x cs (reach j) (origin j)
+
+  -- ---- a shifted block: its first number is a let
+
+  module _ (shifted : is_shifted c ≡ true) where
+    -- what is kept of its numbers: those up to the last one, where a block was moved
+    abbrev pub rest_cap : List Form
+    rest_cap = if has_rest c own.count then number (last_number own) ∷ [] else []
+
+    shift_cap : with_last [] (claim_last c own) ≡ rest_cap
+    shift_cap = of c.tail shifted
+      where
+        by : (b : Bool) → with_last [] (if b then Some (last_number own) else None) ≡ (if b then number (last_number own) ∷ [] else [])
+        by true = refl
+        by false = refl
+
+        of : (tail : Tail) → (elim tail [ Guard ↦ false | Roundup ↦ false | Shift ↦ true ]) ≡ true →
+            with_last [] (elim tail [ Guard ↦ own_last c own | Roundup ↦ None | Shift ↦ own_last c own ]) ≡ (if has_rest c own.count then number (last_number own) ∷ [] else [])
+        of Guard e = absurd (cc e)
+        of Roundup e = absurd (cc e)
+        of Shift e = by (has_rest c own.count)
+
+    module _ (l : LayText) (is : l.numbers ≡ rs) (s : ℕ) (rest : List Split) (inner_end : end_of l.numbers c.inner rest ≡ last_number (numbers_named l.numbers c.inner)) where
+      abbrev moved : BlockText
+      moved = block_of l is s rest inner_end
+
+      pub shift_claim : block_span moved.start moved.length moved.claim_limits
+          ≡ record { lower = one_of own.low (pos c.factor) s ∷ []; upper = one_of ((pos c.factor -ℤ pos 1) +ℤ own.low) (pos c.factor) s ∷ rest_cap }
+      shift_claim = claim_by l is s rest inner_end rest_cap shift_cap
+
+      pub shift_places : (f : Form) → form_named l.starts c.whole ≡ Some f → (x : List ℕ) (cs : List Split) → (dimension_by l x cs (Run moved)).places ≡ From f c.factor
+      shift_places f start x cs = (let origin = origin_so in let reach = reach_so in λ j. places_by l x cs (reach j) (origin j))
+        where
+          origin_so : moved.origin ≡ Some f
+          origin_so = of c.tail shifted ∙ start
+            where
+              of : (tail : Tail) → (elim tail [ Guard ↦ false | Roundup ↦ false | Shift ↦ true ]) ≡ true → (elim tail [
+                | Guard ↦ option_map (multiple_from own.low (factor_of c)) (turn_of l is s rest inner_end).origin
+                | Roundup ↦ option_map (multiple_from own.low (factor_of c)) (turn_of l is s rest inner_end).origin
+                | Shift ↦ if true then form_named l.starts c.whole else None
+              ]) ≡ form_named l.starts c.whole
+              of Guard e = absurd (cc e)
+              of Roundup e = absurd (cc e)
+              of Shift e = refl
+
+          reach_so : moved.reach ≡ pos c.factor
+          reach_so =
+              ap (reach_over c (turn_of l is s rest inner_end)) (inner_end ∙ ap (λ (ns : List Numbers). last_number (numbers_named ns c.inner)) is ∙ inner_last) ∙ of c.tail shifted
+            where
+              back : (z : ℤ) → ((z -ℤ pos 1) +ℤ pos 1) ≡ z
+              back z = omega (arith, ints)
+
+              all_of : sum (pos c.factor -ℤ pos 1) (pos 1) ≡ pos c.factor
+              all_of = (let wide = fits.few in ap nearest (back (pos c.factor)) ∙ nearest_of_small (pos c.factor) (omega (arith, ints)) (omega (arith, ints, wide)))
+
+              of : (tail : Tail) → (elim tail [ Guard ↦ false | Roundup ↦ false | Shift ↦ true ]) ≡ true → (elim tail [
+                | Guard ↦ sum (stepped (pos c.factor -ℤ pos 1) (factor_of c) (difference (turn_of l is s rest inner_end).reach (pos 1))) (pos 1)
+                | Roundup ↦ sum (stepped (pos c.factor -ℤ pos 1) (factor_of c) (difference (turn_of l is s rest inner_end).reach (pos 1))) (pos 1)
+                | Shift ↦ sum (pos c.factor -ℤ pos 1) (pos 1)
+              ]) ≡ pos c.factor
+              of Guard e = absurd (cc e)
+              of Roundup e = absurd (cc e)
+              of Shift e = all_of

@@ -2,7 +2,7 @@
 use Rattle.std.proofs.Common.{◌≡◌, ℕ, zero, suc, ◌+◌, ◌*◌, ◌<◌, ◌≤◌, ◌^◌, Bool, true, false, ◌&&◌, ◌||◌, List, [], ◌∷◌, ◌++◌, length, map}
 use Rattle.std.proofs.Common.{Some, None, refl, sym, ap, ◌∙◌, subst, inl, inr, ◌⊎◌, arith}
 use Rattle.std.specs.Prelude.{nat_lt, ℤ, pos, ◌+ℤ◌, ◌-ℤ◌, ◌*ℤ◌, if◌then◌else◌, slice_get}
-use Rattle.std.specs.List.{AllByRecursion, list_any}
+use Rattle.std.specs.List.{AllByRecursion}
 use Rattle.std.specs.Int.RustNames.{unsigned_abs}
 use Rattle.std.proofs.lemmas.Int.{ints}
 use Rattle.std.proofs.lemmas.Bool.Decides.{nat_tests}
@@ -42,7 +42,7 @@ use Rattle.sched.specs.declared.skeleton.Known.{Known}
 use Rattle.sched.specs.declared.nest.Turning.{Turning}
 use Rattle.sched.specs.Numbers.{numbers_named, last_number, loop_numbers, parallel_loops, grid_counts, or_one, piece_counts}
 use Rattle.sched.specs.Placing.{is_parallel, has_loop}
-use Rattle.sched.specs.Standing.{form_named, counted_from}
+use Rattle.sched.specs.Standing.{form_named, counted_from, has_rest}
 use Rattle.sched.specs.Skeleton.{BodyText, SkeletonText, loop_turning, grid_forms}
 use Rattle.sched.proofs.Leading.{in_left, in_right}
 use Rattle.lower.specs.declared.lowering.Lowered.{Lowered}
@@ -87,6 +87,7 @@ use Rattle.completeness.proofs.TailTurns.{is_shifted}
 use Rattle.completeness.proofs.TailSkeletons.{known_over}
 use Rattle.sched.specs.Numbers.{is_too_short}
 use Rattle.completeness.proofs.TailDims.{end_of_all, all_of, kept_cap, counted, outer_low, outer_last, inner_low, inner_last, few_numbers, end_is, claim_is as block_claim_is, block_claim}
+use Rattle.completeness.proofs.TailDims.{shift_claim, shift_places}
 use Rattle.completeness.proofs.TailDims.{block_places}
 
 -- ---- groups
@@ -116,8 +117,7 @@ module _ (a : Algorithm) (sch : Schedule) (l : Lowered) (well : IsAlgorithm a) (
       (placed : (j : ℕ) (v : CodeClaim) → slice_get claims j ≡ Some v → slice_get items (first + j) ≡ Some v)
       (alone_here : (j : ℕ) (w : CodeClaim) → slice_get items j ≡ Some w → line < w.line → w.line < line + (lines (statement_of p.body) + 1) → In w claims)
       (laid : IsLaidBy g h.extents h.skeleton) (split_alone : AreSplitOnce g.placed.cuts) (keeps : KeepsInner g.placed.loops g.placed.cuts)
-      (long : AllByRecursion (λ c. is_too_short (loop_numbers g.subject.variables g.placed.cuts h.extents) c ≡ false) g.placed.cuts)
-      (ground : AllByRecursion (λ c. (is_shifted c && list_any (λ o. is_parallel o && same_name o.name c.outer) g.placed.loops) ≡ false) g.placed.cuts) where
+      (long : AllByRecursion (λ c. is_too_short (loop_numbers g.subject.variables g.placed.cuts h.extents) c ≡ false) g.placed.cuts) where
     abbrev pub k : SkeletonText
     k = h.skeleton
 
@@ -188,15 +188,6 @@ module _ (a : Algorithm) (sch : Schedule) (l : Lowered) (well : IsAlgorithm a) (
 
     pub made_so : AreMade xs (xs ++ g.subject.reductions) cuts
     made_so = (owners.directed g h.extents k laid).made
-
-    -- a split whose outer loop is over the grid is not shifted
-    pub plain : (c : Split) → In c cuts → (f : Form) → form_named grid c.outer ≡ Some f → is_shifted c ≡ false
-    plain c m f e = of (is_shifted c) (all_in (λ c. (is_shifted c && list_any (λ o. is_parallel o && same_name o.name c.outer) ls) ≡ false) cuts c ground m)
-        (parallel_named ls c.outer ∙ grid_named rs c.outer 0 (parallel_loops ls) f e)
-      where
-        of : (b : Bool) {v : Bool} → (b && v) ≡ false → v ≡ true → b ≡ false
-        of true q r = (let clash : true ≡ false = sym r ∙ q in absurd (cc clash))
-        of false q r = refl
 
     -- a shifted split has as many numbers as a block
     pub enough : (c : Split) → In c cuts → is_shifted c ≡ true → c.factor ≤ (numbers_named rs c.whole).count
@@ -307,7 +298,7 @@ module _ (a : Algorithm) (sch : Schedule) (l : Lowered) (well : IsAlgorithm a) (
     abbrev pub leaf_names : List (List ℕ)
     leaf_names = xs ++ (map (λ c. c.outer) cuts ++ map (λ c. c.inner) cuts)
 
-    few_cuts : length cuts ≤ 3
+    pub few_cuts : length cuts ≤ 3
     few_cuts =
         let ts : List Turning = map turn_of cuts in
         let one = at_most_all xs ts (all_mapped turn_of (λ t. In t.name xs) cuts (all_from (λ c. In c.whole xs) cuts wholes)) in
@@ -474,27 +465,44 @@ module _ (a : Algorithm) (sch : Schedule) (l : Lowered) (well : IsAlgorithm a) (
             back : (z : ℤ) (c : ℕ) → ((z +ℤ pos c -ℤ pos 1 -ℤ z) +ℤ pos 1) ≡ pos c
             back z c = omega (arith, ints)
 
+    abbrev block_text : (c : Split) → In c cuts → ℕ → List Split → BlockText
+    block_text c m s rest =
+        blocks_by lay c rest (record { start = counted_from (pos 0) s; length = pos 1; own_limits = []; claim_limits = []; origin = Some (counted_from (pos 0) s); reach = pos 1 }) (num c.whole)
+
     -- of a split loop whose outer loop is parallel: a block
-    pub dim_block : (c : Split) (m : In c cuts) (s : ℕ) → form_named grid c.outer ≡ Some (counted_from (pos 0) s) →
+    pub dim_block : (c : Split) (m : In c cuts) → is_shifted c ≡ false → (s : ℕ) → form_named grid c.outer ≡ Some (counted_from (pos 0) s) →
         (claim c.whole ≡ record {
           lower = one_of (low c.whole) (pos c.factor) s ∷ [];
           upper = one_of ((pos c.factor -ℤ pos 1) +ℤ low c.whole) (pos c.factor) s
               ∷ kept_cap rs c (fits c m) (fit_of c.whole (wholes c m)).0 (fit_of c.whole (wholes c m)).1;
         })
         × (place c.whole ≡ From (one_of (low c.whole) (pos c.factor) s) c.factor)
-    dim_block c m s e =
+    dim_block c m unshifted s e =
         let fit = fit_of c.whole (wholes c m) in
         let o = cut_once lay cuts others once c m in
         let outer = uncut_grid c.outer (counted_from (pos 0) s) e in
         let inner = uncut_serial c.inner (inners_serial ls cuts keeps c m) in
         let is : part_of lay c.whole cuts ≡ Run (block_text c m s o.rest) = o.part ∙ (λ j. joined lay c o.rest (outer j) (inner j)) in (
-          ap (λ (q : _). (dimension_by lay c.whole cuts q).claim) is ∙ block_claim rs c (fits c m) fit.0 fit.1 (plain c m (counted_from (pos 0) s) e) lay refl s o.rest o.inner_end,
-          ap (λ (q : _). (dimension_by lay c.whole cuts q).places) is ∙ block_places rs c (fits c m) fit.0 fit.1 (plain c m (counted_from (pos 0) s) e) lay refl s o.rest o.inner_end c.whole cuts,
+          ap (λ (q : _). (dimension_by lay c.whole cuts q).claim) is ∙ block_claim rs c (fits c m) fit.0 fit.1 unshifted lay refl s o.rest o.inner_end,
+          ap (λ (q : _). (dimension_by lay c.whole cuts q).places) is ∙ block_places rs c (fits c m) fit.0 fit.1 unshifted lay refl s o.rest o.inner_end c.whole cuts,
         )
-      where
-        block_text : (c : Split) → In c cuts → ℕ → List Split → BlockText
-        block_text c m s rest =
-            blocks_by lay c rest (record { start = counted_from (pos 0) s; length = pos 1; own_limits = []; claim_limits = []; origin = Some (counted_from (pos 0) s); reach = pos 1 }) (num c.whole)
+
+    -- or one whose first number is a let
+    pub dim_head : (c : Split) (m : In c cuts) → is_shifted c ≡ true → (s : ℕ) → form_named grid c.outer ≡ Some (counted_from (pos 0) s) → (f : Form) → form_named k.starts c.whole ≡ Some f →
+        (claim c.whole ≡ record {
+          lower = one_of (low c.whole) (pos c.factor) s ∷ [];
+          upper = one_of ((pos c.factor -ℤ pos 1) +ℤ low c.whole) (pos c.factor) s ∷ (if has_rest c (num c.whole).count then number (last c.whole) ∷ [] else []);
+        })
+        × (place c.whole ≡ From f c.factor)
+    dim_head c m shifted s e f start =
+        let fit = fit_of c.whole (wholes c m) in
+        let o = cut_once lay cuts others once c m in
+        let outer = uncut_grid c.outer (counted_from (pos 0) s) e in
+        let inner = uncut_serial c.inner (inners_serial ls cuts keeps c m) in
+        let is : part_of lay c.whole cuts ≡ Run (block_text c m s o.rest) = o.part ∙ (λ j. joined lay c o.rest (outer j) (inner j)) in (
+          ap (λ (q : _). (dimension_by lay c.whole cuts q).claim) is ∙ shift_claim rs c (fits c m) fit.0 fit.1 shifted lay refl s o.rest o.inner_end,
+          ap (λ (q : _). (dimension_by lay c.whole cuts q).places) is ∙ shift_places rs c (fits c m) fit.0 fit.1 shifted lay refl s o.rest o.inner_end f start c.whole cuts,
+        )
 
     -- of one whose loops are both in the nest: all numbers
     pub dim_split : (c : Split) (m : In c cuts) → hits loop_name c.outer (parallel_loops ls) ≡ 0 →

@@ -24,7 +24,6 @@ use Rattle.soundness.specs.Origins.{Outline}
 use Rattle.soundness.specs.Given.{outline_of}
 use Rattle.soundness.specs.Obligations.{Binder, Known as KnownHere, Rules, has_form, is_form, goes_on}
 use Rattle.soundness.specs.Shown.{Nests}
-use Rattle.soundness.specs.Binders.View.{grid_binders}
 use Rattle.soundness.specs.Nests.Laws.{domains_of}
 use Rattle.soundness.specs.Nests.Tests.{left_of, over_of, plain_nests}
 use Rattle.soundness.proofs.Refines.{name_refl}
@@ -38,7 +37,6 @@ use Rattle.sched.specs.declared.skeleton.Known.{Known}
 use Rattle.sched.specs.declared.skeleton.Step.{Step}
 use Rattle.sched.specs.declared.nest.Turning.{Turning}
 use Rattle.sched.specs.Numbers.{numbers_named, last_number, loop_numbers, parallel_loops, piece_counts}
-use Rattle.sched.specs.Placing.{is_parallel}
 use Rattle.sched.specs.Standing.{form_named}
 use Rattle.sched.specs.Skeleton.{BodyText, NestText, SkeletonText, is_missing, variables_at, ranges_at, grid_forms, kept_from}
 use Rattle.tails.specs.Steps.{spine_of}
@@ -72,7 +70,6 @@ use Rattle.sched.specs.Skeleton.{range_turning}
 use Rattle.lower.specs.Around.{range_names}
 use Rattle.completeness.proofs.BlockNests.{stored_there}
 use Rattle.completeness.proofs.TailGroups as group
-use Rattle.sched.specs.Placing.{is_shifted}
 use Rattle.sched.specs.Numbers.{is_too_short}
 use Rattle.rules.specs.Bounding.Scopes.{most_symbols}
 use Rattle.completeness.proofs.BlockNames.{LeafOf}
@@ -97,7 +94,9 @@ use Rattle.completeness.proofs.BlockNests.{take_all}
 use Rattle.completeness.proofs.BlockFacts.{all_kept}
 use Rattle.completeness.proofs.LoopMoves.{true_end}
 use Rattle.completeness.proofs.TailLines.{lines_of, spine_is, first_steps}
-use Rattle.completeness.proofs.TailTests.{IsPlaced, IsPlacedSum, places_there, covered}
+use Rattle.completeness.proofs.TailTests.{IsPlaced, IsPlacedSum, places_there, around_apart, covered}
+use Rattle.tails.specs.Apart.{is_apart}
+use Rattle.tails.specs.Steps.{along}
 
 -- ---- groups
 
@@ -126,8 +125,7 @@ module _ (a : Algorithm) (sch : Schedule) (l : Lowered) (well : IsAlgorithm a) (
       (placed : (j : ℕ) (v : CodeClaim) → slice_get claims j ≡ Some v → slice_get items (first + j) ≡ Some v)
       (alone_here : (j : ℕ) (w : CodeClaim) → slice_get items j ≡ Some w → line < w.line → w.line < line + (lines (statement_of p.body) + 1) → In w claims)
       (laid : IsLaidBy g h.extents h.skeleton) (split_alone : AreSplitOnce g.placed.cuts) (keeps : KeepsInner g.placed.loops g.placed.cuts)
-      (long : AllByRecursion (λ c. is_too_short (loop_numbers g.subject.variables g.placed.cuts h.extents) c ≡ false) g.placed.cuts)
-      (ground : AllByRecursion (λ c. (is_shifted c && list_any (λ o. is_parallel o && same_name o.name c.outer) g.placed.loops) ≡ false) g.placed.cuts) where
+      (long : AllByRecursion (λ c. is_too_short (loop_numbers g.subject.variables g.placed.cuts h.extents) c ≡ false) g.placed.cuts) where
     abbrev pub k : SkeletonText
     k = h.skeleton
 
@@ -183,67 +181,71 @@ module _ (a : Algorithm) (sch : Schedule) (l : Lowered) (well : IsAlgorithm a) (
     place x = (dimension_of lay cuts x).places
 
     abbrev pub others : AreOthers cuts
-    others = shape_of.others a sch l well legal small kept all groups n first line g p claims needs at there h lined placed alone_here laid split_alone keeps long ground
+    others = shape_of.others a sch l well legal small kept all groups n first line g p claims needs at there h lined placed alone_here laid split_alone keeps long
 
     abbrev pub once : AreOnce cuts
-    once = shape_of.once a sch l well legal small kept all groups n first line g p claims needs at there h lined placed alone_here laid split_alone keeps long ground
+    once = shape_of.once a sch l well legal small kept all groups n first line g p claims needs at there h lined placed alone_here laid split_alone keeps long
 
     abbrev pub halves : (c : Split) → In c cuts → (x : List ℕ) → In x xs → (x ≡ c.outer → ⊥) × (x ≡ c.inner → ⊥)
-    halves = shape_of.halves a sch l well legal small kept all groups n first line g p claims needs at there h lined placed alone_here laid split_alone keeps long ground
+    halves = shape_of.halves a sch l well legal small kept all groups n first line g p claims needs at there h lined placed alone_here laid split_alone keeps long
 
     abbrev pub outers : (c d : Split) → In c cuts → In d cuts → c.outer ≡ d.outer → c ≡ d
-    outers = shape_of.outers a sch l well legal small kept all groups n first line g p claims needs at there h lined placed alone_here laid split_alone keeps long ground
+    outers = shape_of.outers a sch l well legal small kept all groups n first line g p claims needs at there h lined placed alone_here laid split_alone keeps long
 
     abbrev pub gone : (c : Split) → In c cuts → (o : NestLoop) → In o ls → c.whole ≡ o.name → ⊥
-    gone = shape_of.gone a sch l well legal small kept all groups n first line g p claims needs at there h lined placed alone_here laid split_alone keeps long ground
+    gone = shape_of.gone a sch l well legal small kept all groups n first line g p claims needs at there h lined placed alone_here laid split_alone keeps long
 
     abbrev pub wholes : (c : Split) → In c cuts → In c.whole xs
-    wholes = shape_of.wholes a sch l well legal small kept all groups n first line g p claims needs at there h lined placed alone_here laid split_alone keeps long ground
+    wholes = shape_of.wholes a sch l well legal small kept all groups n first line g p claims needs at there h lined placed alone_here laid split_alone keeps long
 
     abbrev pub fits : (c : Split) → In c cuts → CutFits rs c
-    fits = shape_of.fits a sch l well legal small kept all groups n first line g p claims needs at there h lined placed alone_here laid split_alone keeps long ground
+    fits = shape_of.fits a sch l well legal small kept all groups n first line g p claims needs at there h lined placed alone_here laid split_alone keeps long
 
     abbrev pub single : (y : List ℕ) → hits loop_name y ls ≤ 1
-    single = shape_of.single a sch l well legal small kept all groups n first line g p claims needs at there h lined placed alone_here laid split_alone keeps long ground
+    single = shape_of.single a sch l well legal small kept all groups n first line g p claims needs at there h lined placed alone_here laid split_alone keeps long
 
     abbrev pub inners : (c : Split) → In c cuts → form_named grid c.inner ≡ None
-    inners = shape_of.inners a sch l well legal small kept all groups n first line g p claims needs at there h lined placed alone_here laid split_alone keeps long ground
+    inners = shape_of.inners a sch l well legal small kept all groups n first line g p claims needs at there h lined placed alone_here laid split_alone keeps long
 
     abbrev pub leaf_of : (o : NestLoop) → In o ls → LeafOf xs ls cuts rs others once halves outers gone o.name
-    leaf_of = shape_of.leaf_of a sch l well legal small kept all groups n first line g p claims needs at there h lined placed alone_here laid split_alone keeps long ground
+    leaf_of = shape_of.leaf_of a sch l well legal small kept all groups n first line g p claims needs at there h lined placed alone_here laid split_alone keeps long
 
     abbrev pub shape : AreTails xs bs g.placed others once rs k
-    shape = shape_of.shape a sch l well legal small kept all groups n first line g p claims needs at there h lined placed alone_here laid split_alone keeps long ground
+    shape = shape_of.shape a sch l well legal small kept all groups n first line g p claims needs at there h lined placed alone_here laid split_alone keeps long
 
     abbrev pub NumbersFit : List ℕ → Type 0
-    NumbersFit = shape_of.NumbersFit a sch l well legal small kept all groups n first line g p claims needs at there h lined placed alone_here laid split_alone keeps long ground
+    NumbersFit = shape_of.NumbersFit a sch l well legal small kept all groups n first line g p claims needs at there h lined placed alone_here laid split_alone keeps long
 
     abbrev pub fit_of : (x : List ℕ) → In x xs → NumbersFit x
-    fit_of = shape_of.fit_of a sch l well legal small kept all groups n first line g p claims needs at there h lined placed alone_here laid split_alone keeps long ground
+    fit_of = shape_of.fit_of a sch l well legal small kept all groups n first line g p claims needs at there h lined placed alone_here laid split_alone keeps long
 
     abbrev pub sized : (c : Split) → In c cuts → IsSmall (num c.whole) × (0 < (num c.whole).count)
-    sized = shape_of.sized a sch l well legal small kept all groups n first line g p claims needs at there h lined placed alone_here laid split_alone keeps long ground
+    sized = shape_of.sized a sch l well legal small kept all groups n first line g p claims needs at there h lined placed alone_here laid split_alone keeps long
 
     abbrev pub shorts : AllByRecursion IsShort k.grid
-    shorts = shape_of.shorts a sch l well legal small kept all groups n first line g p claims needs at there h lined placed alone_here laid split_alone keeps long ground
+    shorts = shape_of.shorts a sch l well legal small kept all groups n first line g p claims needs at there h lined placed alone_here laid split_alone keeps long
 
     abbrev pub near_named : (y : List ℕ) → LeafOf xs ls cuts rs others once halves outers gone y → (unsigned_abs (low y) ≤ 2 ^ 36) × (unsigned_abs (last y) ≤ 2 ^ 36)
-    near_named = shape_of.near_named a sch l well legal small kept all groups n first line g p claims needs at there h lined placed alone_here laid split_alone keeps long ground
+    near_named = shape_of.near_named a sch l well legal small kept all groups n first line g p claims needs at there h lined placed alone_here laid split_alone keeps long
 
     abbrev pub loop_leaf : (o : NestLoop) → In o ls → (x : List ℕ) × (slice_get xs o.dimension ≡ Some x) × ((x ≡ o.name) ⊎ ((c : Split) × In c cuts × (c.whole ≡ x) × ((o.name ≡ c.outer) ⊎
         (o.name ≡ c.inner))))
-    loop_leaf = shape_of.loop_leaf a sch l well legal small kept all groups n first line g p claims needs at there h lined placed alone_here laid split_alone keeps long ground
+    loop_leaf = shape_of.loop_leaf a sch l well legal small kept all groups n first line g p claims needs at there h lined placed alone_here laid split_alone keeps long
+
+    -- what is bound around a nest
+    abbrev around : List Binder
+    around = shape_of.around a sch l well legal small kept all groups n first line g p claims needs at there h lined placed alone_here laid split_alone keeps long
 
     distinct_xs : AreDistinct (xs ++ range_names [])
     distinct_xs = subst AreDistinct (no_more xs) (shape_of.distinct_here a sch l well legal small kept all groups n first line g p claims needs at there h lined placed alone_here laid
-        split_alone keeps long ground)
+        split_alone keeps long)
       where
         no_more : (ys : List (List ℕ)) → ys ≡ ys ++ []
         no_more [] = refl
         no_more (y ∷ ys) = ap (λ (zs : List (List ℕ)). y ∷ zs) (no_more ys)
 
     ranged_first : (w : NestText) (stands : slice_get k.nests 0 ≡ Some w) → (shape.nests 0 w stands).body.ranges ≡ map range_turning []
-    ranged_first w stands = group.bare_ranges a sch l well legal small kept all groups n first line g p claims needs at there h lined placed alone_here laid split_alone keeps long ground
+    ranged_first w stands = group.bare_ranges a sch l well legal small kept all groups n first line g p claims needs at there h lined placed alone_here laid split_alone keeps long
         (shape.nests 0 w stands).body (shape.nests 0 w stands).at
 
     -- ---- the pure definition's nest
@@ -259,31 +261,31 @@ module _ (a : Algorithm) (sch : Schedule) (l : Lowered) (well : IsAlgorithm a) (
       m0 = q.next
 
       abbrev ts : List Turning
-      ts = nest_of.ts a sch l well legal small kept all groups n first line g p claims needs at there h lined placed alone_here laid split_alone keeps long ground 0 w stands [] (λ e m.
+      ts = nest_of.ts a sch l well legal small kept all groups n first line g p claims needs at there h lined placed alone_here laid split_alone keeps long 0 w stands [] (λ e m.
           absurd m) distinct_xs tt (ranged_first w stands) always (λ j e at_j k. refl)
 
       abbrev kinds : ℕ → Line
-      kinds = nest_of.kinds a sch l well legal small kept all groups n first line g p claims needs at there h lined placed alone_here laid split_alone keeps long ground 0 w stands [] (λ e
+      kinds = nest_of.kinds a sch l well legal small kept all groups n first line g p claims needs at there h lined placed alone_here laid split_alone keeps long 0 w stands [] (λ e
           m. absurd m) distinct_xs tt (ranged_first w stands) always (λ j e at_j k. refl)
 
       abbrev lim : ℕ → List Form
-      lim = nest_of.lim a sch l well legal small kept all groups n first line g p claims needs at there h lined placed alone_here laid split_alone keeps long ground 0 w stands [] (λ e m.
+      lim = nest_of.lim a sch l well legal small kept all groups n first line g p claims needs at there h lined placed alone_here laid split_alone keeps long 0 w stands [] (λ e m.
           absurd m) distinct_xs tt (ranged_first w stands) always (λ j e at_j k. refl)
 
       abbrev factor_at : ℕ → ℤ
-      factor_at = nest_of.factor_at a sch l well legal small kept all groups n first line g p claims needs at there h lined placed alone_here laid split_alone keeps long ground 0 w stands
+      factor_at = nest_of.factor_at a sch l well legal small kept all groups n first line g p claims needs at there h lined placed alone_here laid split_alone keeps long 0 w stands
           [] (λ e m. absurd m) distinct_xs tt (ranged_first w stands) always (λ j e at_j k. refl)
 
       abbrev tops_at : ℕ → List Form
-      tops_at = nest_of.tops_at a sch l well legal small kept all groups n first line g p claims needs at there h lined placed alone_here laid split_alone keeps long ground 0 w stands [] (λ
+      tops_at = nest_of.tops_at a sch l well legal small kept all groups n first line g p claims needs at there h lined placed alone_here laid split_alone keeps long 0 w stands [] (λ
           e m. absurd m) distinct_xs tt (ranged_first w stands) always (λ j e at_j k. refl)
 
       abbrev owner_at : ℕ → List ℕ
-      owner_at = nest_of.owner_at a sch l well legal small kept all groups n first line g p claims needs at there h lined placed alone_here laid split_alone keeps long ground 0 w stands []
+      owner_at = nest_of.owner_at a sch l well legal small kept all groups n first line g p claims needs at there h lined placed alone_here laid split_alone keeps long 0 w stands []
           (λ e m. absurd m) distinct_xs tt (ranged_first w stands) always (λ j e at_j k. refl)
 
       none_b : b.missing ≡ []
-      none_b = group.none_missing_first a sch l well legal small kept all groups n first line g p claims needs at there h lined placed alone_here laid split_alone keeps long ground b q.at
+      none_b = group.none_missing_first a sch l well legal small kept all groups n first line g p claims needs at there h lined placed alone_here laid split_alone keeps long b q.at
 
       kept_all_names : kept_from b 0 xs ≡ xs
       kept_all_names = all_kept b none_b 0 xs
@@ -291,65 +293,73 @@ module _ (a : Algorithm) (sch : Schedule) (l : Lowered) (well : IsAlgorithm a) (
       among : (x : List ℕ) → In x xs → In x (kept_from b 0 xs)
       among x m = subst (In x) (sym kept_all_names) m
 
-      abbrev few_grid : length k.grid ≤ m0
-      few_grid = nest_of.few_grid a sch l well legal small kept all groups n first line g p claims needs at there h lined placed alone_here laid split_alone keeps long ground 0 w stands []
-          (λ e m. absurd m) distinct_xs tt (ranged_first w stands) always (λ j e at_j k. refl)
+      few_heads : length k.grid + length (shape_of.head_lets a sch l well legal small kept all groups n first line g p claims needs at there h lined placed alone_here laid split_alone keeps
+          long).lets ≤ m0
+      few_heads = nest_of.few_heads a sch l well legal small kept all groups n first line g p claims needs at there h lined placed alone_here laid split_alone keeps long 0 w stands [] (λ e
+          m. absurd m) distinct_xs tt (ranged_first w stands) always (λ j e at_j k. refl)
+
+      apart : list_all (is_apart (along (lines_of kinds lim m0 ts))) around ≡ true
+      apart =
+          let is = ap length shape.grid in
+          let least = q.low in
+          around_apart kinds lim m0 ts k.grid (shape_of.head_lets a sch l well legal small kept all groups n first line g p claims needs at there h lined placed alone_here laid split_alone
+          keeps long).lets few_heads (shape_of.head_below a sch l well legal small kept all groups n first line g p claims needs at there h lined placed alone_here laid split_alone
+          keeps long m0 (omega (arith, least)))
 
       -- few symbols
       short : m0 + length ts ≤ most_symbols
       short =
-          let one = group.few_loops a sch l well legal small kept all groups n first line g p claims needs at there h lined placed alone_here laid split_alone keeps long ground ts
+          let one = group.few_loops a sch l well legal small kept all groups n first line g p claims needs at there h lined placed alone_here laid split_alone keeps long ts
           (all_slices (λ t. In t.name (group.leaf_names a sch l well legal small kept all groups n first line g p claims needs at there h lined placed alone_here laid split_alone keeps
-          long ground)) ts named_so) (nest_of.turns_alone a sch l well legal small kept all groups n first line g p claims needs at there h lined placed alone_here laid split_alone
-          keeps long ground 0 w stands [] (λ e m. absurd m) distinct_xs tt (ranged_first w stands) always (λ j e at_j k. refl)) in
+          long)) ts named_so) (nest_of.turns_alone a sch l well legal small kept all groups n first line g p claims needs at there h lined placed alone_here laid split_alone
+          keeps long 0 w stands [] (λ e m. absurd m) distinct_xs tt (ranged_first w stands) always (λ j e at_j k. refl)) in
           let two = q.first refl in
-          let three = group.few_pieces a sch l well legal small kept all groups n first line g p claims needs at there h lined placed alone_here laid split_alone keeps long ground in
-          let four = ap (λ (ss : List Step). length ss) (shape_of.no_head a sch l well legal small kept all groups n first line g p claims needs at there h lined placed alone_here laid
-          split_alone keeps long ground) in
+          let three = group.few_pieces a sch l well legal small kept all groups n first line g p claims needs at there h lined placed alone_here laid split_alone keeps long in
+          let four = shape_of.few_head a sch l well legal small kept all groups n first line g p claims needs at there h lined placed alone_here laid split_alone keeps long in
           omega (arith, one, two, three, four)
         where
           named_so : (j : ℕ) (t : Turning) → slice_get ts j ≡ Some t → In t.name (group.leaf_names a sch l well legal small kept all groups n first line g p claims needs at there h lined
-              placed alone_here laid split_alone keeps long ground)
+              placed alone_here laid split_alone keeps long)
           named_so j t at_j = of (is_loop (kinds (m0 + j))) refl
             where
               leaf_in : (y : List ℕ) → LeafOf xs ls cuts rs others once halves outers gone y → In y (group.leaf_names a sch l well legal small kept all groups n first line g p claims needs
-                  at there h lined placed alone_here laid split_alone keeps long ground)
-              leaf_in y leaf = group.leaf_among a sch l well legal small kept all groups n first line g p claims needs at there h lined placed alone_here laid split_alone keeps long ground y leaf
+                  at there h lined placed alone_here laid split_alone keeps long)
+              leaf_in y leaf = group.leaf_among a sch l well legal small kept all groups n first line g p claims needs at there h lined placed alone_here laid split_alone keeps long y leaf
 
               of : (v : Bool) → is_loop (kinds (m0 + j)) ≡ v → In t.name (group.leaf_names a sch l well legal small kept all groups n first line g p claims needs at there h lined placed
-                  alone_here laid split_alone keeps long ground)
+                  alone_here laid split_alone keeps long)
               of true loop =
-                  let r = nest_of.turn_at a sch l well legal small kept all groups n first line g p claims needs at there h lined placed alone_here laid split_alone keeps long ground 0 w
+                  let r = nest_of.turn_at a sch l well legal small kept all groups n first line g p claims needs at there h lined placed alone_here laid split_alone keeps long 0 w
                   stands [] (λ e m. absurd m) distinct_xs tt (ranged_first w stands) always (λ j e at_j k. refl) j t at_j loop in
-                  elim (shape_of.part a sch l well legal small kept all groups n first line g p claims needs at there h lined placed alone_here laid split_alone keeps long ground b [] (λ e
+                  elim (shape_of.part a sch l well legal small kept all groups n first line g p claims needs at there h lined placed alone_here laid split_alone keeps long b [] (λ e
                   m. absurd m) distinct_xs tt (ranged_first w stands) r.0 t r.1) [
                     | inl o ↦ leaf_in t.name (shape_of.loop_turn a sch l well legal small kept all groups n first line g p claims needs at there h lined placed alone_here laid split_alone
-                        keeps long ground b [] (λ e m. absurd m) distinct_xs tt (ranged_first w stands) t o).leaf
+                        keeps long b [] (λ e m. absurd m) distinct_xs tt (ranged_first w stands) t o).leaf
                     | inr o ↦ absurd o.1
                   ]
               of false e =
-                  let r = (nest_of.lets a sch l well legal small kept all groups n first line g p claims needs at there h lined placed alone_here laid split_alone keeps long ground 0 w
+                  let r = (nest_of.lets a sch l well legal small kept all groups n first line g p claims needs at there h lined placed alone_here laid split_alone keeps long 0 w
                   stands [] (λ e m. absurd m) distinct_xs tt (ranged_first w stands) always (λ j e at_j k. refl) j t at_j e).0 in
                   leaf_in t.name (inl (subst (λ (y : List ℕ). In y xs) (sym r.name) (wholes r.split r.among)))
 
       abbrev kept_sums : AreSums factor_at m0 ts owner_at kinds lim tops_at always xs
-      kept_sums = nest_of.sums a sch l well legal small kept all groups n first line g p claims needs at there h lined placed alone_here laid split_alone keeps long ground 0 w stands [] (λ
+      kept_sums = nest_of.sums a sch l well legal small kept all groups n first line g p claims needs at there h lined placed alone_here laid split_alone keeps long 0 w stands [] (λ
           e m. absurd m) distinct_xs tt (ranged_first w stands) always (λ j e at_j k. refl) xs among
 
       placed_all : (ys : List (List ℕ)) (sub : (x : List ℕ) → In x ys → In x (kept_from b 0 xs)) → Each factor_at m0 ts owner_at kinds lim tops_at always
-          (IsPlacedSum factor_at m0 ts owner_at kinds lim tops_at R k.grid few_grid place) ys (nest_of.sums a sch l well legal small kept all groups n first line g p claims needs at there h
-          lined placed alone_here laid split_alone keeps long ground 0 w stands [] (λ e m. absurd m) distinct_xs tt (ranged_first w stands) always (λ j e at_j k. refl) ys sub)
+          (IsPlacedSum factor_at m0 ts owner_at kinds lim tops_at R around place) ys (nest_of.sums a sch l well legal small kept all groups n first line g p claims needs at there h
+          lined placed alone_here laid split_alone keeps long 0 w stands [] (λ e m. absurd m) distinct_xs tt (ranged_first w stands) always (λ j e at_j k. refl) ys sub)
       placed_all [] sub = tt
       placed_all (y ∷ ys) sub =
-          let f = nest_of.found_kept a sch l well legal small kept all groups n first line g p claims needs at there h lined placed alone_here laid split_alone keeps long ground 0 w stands
+          let f = nest_of.found_kept a sch l well legal small kept all groups n first line g p claims needs at there h lined placed alone_here laid split_alone keeps long 0 w stands
           [] (λ e m. absurd m) distinct_xs tt (ranged_first w stands) always (λ j e at_j k. refl) y (sub y (inl refl)) in
-          (subst (IsPlaced factor_at m0 ts owner_at kinds lim tops_at R k.grid few_grid place y) (sym f.plain.is) (f.plain.placed short), placed_all ys (λ x m. sub x (inr m)))
+          (subst (IsPlaced factor_at m0 ts owner_at kinds lim tops_at R around place y) (sym f.plain.is) (f.plain.placed short), placed_all ys (λ x m. sub x (inr m)))
 
       -- the coordinates of the store are these forms
       record Reads (ys : List (List ℕ)) (sub : (x : List ℕ) → In x ys → In x (kept_from b 0 xs)) (cs : List Coordinate) : Type 0 where
         forms : list_all is_form cs ≡ true
         are : map form_of cs ≡ sum_forms factor_at m0 ts owner_at kinds lim tops_at always ys (nest_of.sums a sch l well legal small kept all groups n first line g p claims needs at there h
-            lined placed alone_here laid split_alone keeps long ground 0 w stands [] (λ e m. absurd m) distinct_xs tt (ranged_first w stands) always (λ j e at_j k. refl) ys sub)
+            lined placed alone_here laid split_alone keeps long 0 w stands [] (λ e m. absurd m) distinct_xs tt (ranged_first w stands) always (λ j e at_j k. refl) ys sub)
         size : length cs ≡ length ys
 
       reads : (ms : Loads) (d : ℕ) (ys : List (List ℕ)) (sub : (x : List ℕ) → In x ys → In x (kept_from b 0 xs)) (names : List (List ℕ)) (lefts : List (Option Term)) (cs : List Coordinate) →
@@ -359,7 +369,7 @@ module _ (a : Algorithm) (sch : Schedule) (l : Lowered) (well : IsAlgorithm a) (
       reads ms d (y ∷ ys) sub [] lefts cs are = absurd are
       reads ms d (y ∷ ys) sub (z ∷ names) lefts [] are = absurd are
       reads ms d (y ∷ ys) sub (z ∷ names) lefts (c ∷ cs) are =
-          let f = nest_of.found_kept a sch l well legal small kept all groups n first line g p claims needs at there h lined placed alone_here laid split_alone keeps long ground 0 w stands
+          let f = nest_of.found_kept a sch l well legal small kept all groups n first line g p claims needs at there h lined placed alone_here laid split_alone keeps long 0 w stands
           [] (λ e m. absurd m) distinct_xs tt (ranged_first w stands) always (λ j e at_j k. refl) y (sub y (inl refl)) in
           let has : is_missing b d ≡ false = ap (λ (es : List ℕ). list_any (λ e. e == d) es) none_b in
           let named_so : (if is_missing b d then None else form_named q.known y) ≡ Some f.form = ap (λ (v : Bool). if v then None else form_named q.known y) has ∙ f.is in
@@ -381,11 +391,11 @@ module _ (a : Algorithm) (sch : Schedule) (l : Lowered) (well : IsAlgorithm a) (
             reads ms 0 xs among (names_with g.variables g.changes 0) f.0.at cs
             (subst (λ (os : List (Option Form)). AreCoordinates ms (names_with g.variables g.changes 0) os f.0.at cs) os f.2.at)
 
-        pure_made : makes_split R (grid_binders k.grid) c (map place xs) (stored_by O.setting c (Some (record { steps = lines_of kinds lim m0 ts; line = Store 0 0 cs e }))) ≡ true
+        pure_made : makes_split R around c (map place xs) (stored_by O.setting c (Some (record { steps = lines_of kinds lim m0 ts; line = Store 0 0 cs e }))) ≡ true
         pure_made =
             let r = coordinates in
             let parts = take_all (length xs) cs r.size in
-            let dims = group.dims a sch l well legal small kept all groups n first line g p claims needs at there h lined placed alone_here laid split_alone keeps long ground in
+            let dims = group.dims a sch l well legal small kept all groups n first line g p claims needs at there h lined placed alone_here laid split_alone keeps long in
             let left_at : left_of O.setting 0 cs ≡ cs = ap (λ (m : ℕ). take m cs) dims ∙ parts.0 in
             let over_at : over_of O.setting 0 cs ≡ [] = ap (λ (m : ℕ). drop m cs) dims ∙ parts.1 in
             let one : (c.definition == 0) ≡ true = ap (λ (m : ℕ). m == 0) defined in
@@ -396,20 +406,20 @@ module _ (a : Algorithm) (sch : Schedule) (l : Lowered) (well : IsAlgorithm a) (
             let stored_so : stored_by O.setting c (Some (record { steps = lines_of kinds lim m0 ts; line = Store 0 0 cs e }))
             ≡ Some (record { steps = lines_of kinds lim m0 ts; forms = sum_forms factor_at m0 ts owner_at kinds lim tops_at always xs kept_sums }) =
             (λ j. option_map (λ fs'. record { steps = lines_of kinds lim m0 ts; forms = fs' }) (if pure j then Some (same_forms j) else None)) in
-            let has = places_there factor_at m0 ts owner_at kinds lim tops_at R k.grid few_grid place xs kept_sums (placed_all xs among) in
+            let has = places_there factor_at m0 ts owner_at kinds lim tops_at R around place apart xs kept_sums (placed_all xs among) in
             let over_all : c.region ≡ map claim xs = over_region ∙ group.own_claim_is a sch l well legal small kept all groups n first line g p claims needs at there h lined placed
-            alone_here laid split_alone keeps long ground in
+            alone_here laid split_alone keeps long in
             let facts = subst (LinesFit factor_at m0 ts owner_at kinds lim tops_at always) kept_all_names (nest_of.fit_lines a sch l well legal small kept all groups n first line g p claims
-            needs at there h lined placed alone_here laid split_alone keeps long ground 0 w stands [] (λ e m. absurd m) distinct_xs tt (ranged_first w stands) always (λ j e at_j k.
+            needs at there h lined placed alone_here laid split_alone keeps long 0 w stands [] (λ e m. absurd m) distinct_xs tt (ranged_first w stands) always (λ j e at_j k.
             refl) (λ j t at_j loop i r. absurd r.1)) in
             let cover = covered factor_at m0 ts owner_at kinds lim tops_at always xs facts (λ j t at_j loop. refl) kept_sums (nest_of.low_lines a sch l well legal small kept all groups n
-            first line g p claims needs at there h lined placed alone_here laid split_alone keeps long ground 0 w stands [] (λ e m. absurd m) distinct_xs tt (ranged_first w stands)
-            always (λ j e at_j k. refl)) R (grid_binders k.grid) claim
-            (nest_of.claimed_all a sch l well legal small kept all groups n first line g p claims needs at there h lined placed alone_here laid split_alone keeps long ground 0 w stands []
+            first line g p claims needs at there h lined placed alone_here laid split_alone keeps long 0 w stands [] (λ e m. absurd m) distinct_xs tt (ranged_first w stands)
+            always (λ j e at_j k. refl)) R around claim
+            (nest_of.claimed_all a sch l well legal small kept all groups n first line g p claims needs at there h lined placed alone_here laid split_alone keeps long 0 w stands []
             (λ e m. absurd m) distinct_xs tt (ranged_first w stands) always (λ j e at_j k. refl) xs among) in
-            let all_covered : covers R (grid_binders k.grid) (lines_of kinds lim m0 ts) (sum_forms factor_at m0 ts owner_at kinds lim tops_at always xs kept_sums) c.region ≡ true =
-            ap (covers R (grid_binders k.grid) (lines_of kinds lim m0 ts) (sum_forms factor_at m0 ts owner_at kinds lim tops_at always xs kept_sums)) over_all ∙ cover in
-            ap (makes_split R (grid_binders k.grid) c (map place xs)) stored_so ∙ (λ j. has j && all_covered j)
+            let all_covered : covers R around (lines_of kinds lim m0 ts) (sum_forms factor_at m0 ts owner_at kinds lim tops_at always xs kept_sums) c.region ≡ true =
+            ap (covers R around (lines_of kinds lim m0 ts) (sum_forms factor_at m0 ts owner_at kinds lim tops_at always xs kept_sums)) over_all ∙ cover in
+            ap (makes_split R around c (map place xs)) stored_so ∙ (λ j. has j && all_covered j)
 
     -- ---- the law
 
@@ -417,15 +427,15 @@ module _ (a : Algorithm) (sch : Schedule) (l : Lowered) (well : IsAlgorithm a) (
     NoLet i pick forms = ⊥
 
     abbrev OverGrids : List Binder → Type 0
-    OverGrids bs = bs ≡ grid_binders k.grid
+    OverGrids bs = bs ≡ around
 
     pub yes_first : (ms : Loads) (w : NestText) (v : CodeClaim) (at_line : ℕ) → slice_get k.nests 0 ≡ Some w → Claims at_line 0 g.subject.name 0 region v → (cs : List Coordinate) (e : Term) →
         IsStore g fs ms 0 w (Store 0 0 cs e) → (part : List Step) → IsRest w.steps part → (s : Statement) → Then s Empty ≡ down 0 0 cs e part → (known : KnownHere) →
         OverGrids known.binders → Holds places known → (c : ℕ) → slice_get items c ≡ Some v → (nests : Nests) → TakeSplit a plan cert n (group_of p) nests → SayYes O R nests known s c
     yes_first ms w v at_line stands says cs e stores part rest s comes known binders holds c found_at_c nests takes =
-        let lead = nest_of.first_loop a sch l well legal small kept all groups n first line g p claims needs at there h lined placed alone_here laid split_alone keeps long ground 0 w stands
+        let lead = nest_of.first_loop a sch l well legal small kept all groups n first line g p claims needs at there h lined placed alone_here laid split_alone keeps long 0 w stands
         [] (λ e m. absurd m) distinct_xs tt (ranged_first w stands) always (λ j e at_j k. refl) 0 cs e in
-        let all_steps = nest_of.steps_so a sch l well legal small kept all groups n first line g p claims needs at there h lined placed alone_here laid split_alone keeps long ground 0 w
+        let all_steps = nest_of.steps_so a sch l well legal small kept all groups n first line g p claims needs at there h lined placed alone_here laid split_alone keeps long 0 w
         stands [] (λ e m. absurd m) distinct_xs tt (ranged_first w stands) always (λ j e at_j k. refl) in
         let code : Then s Empty ≡ down 0 0 cs e (steps_of (kinds w stands) (lim w stands) (m0 w stands) (ts w stands)) =
         comes ∙ ap (down 0 0 cs e) (first_steps (kinds w stands) (lim w stands) 0 cs e (m0 w stands) (ts w stands) lead w.steps part all_steps rest) in
@@ -443,7 +453,7 @@ module _ (a : Algorithm) (sch : Schedule) (l : Lowered) (well : IsAlgorithm a) (
         let test = pure_made w stands ms cs e stores (O.claim c) defined named_so over in (
           (λ seats held.
               let one : Some seats ≡ Some (map place xs) = sym held ∙ ap (places_of known.buffers) buffered ∙ holds ∙ ap (λ (us : List Places). Some us) (group.own_places_are a sch l well
-              legal small kept all groups n first line g p claims needs at there h lined placed alone_here laid split_alone keeps long ground) in
+              legal small kept all groups n first line g p claims needs at there h lined placed alone_here laid split_alone keeps long) in
               let same_seats : seats ≡ map place xs = some_same seats (map place xs) one in
               let made_by : makes_by O.setting R (domains_of a) known.binders (O.claim c) (goes_on O R s c) seats (spine_of s (O.claim c).buffer) ≡ true =
               (λ j. makes_by O.setting R (domains_of a) (binders j) (O.claim c) (goes j) (same_seats j) (spine j)) ∙ test in

@@ -7,6 +7,8 @@ use Rattle.std.specs.Ordering.{int_eq}
 use Rattle.std.specs.Int.RustNames.{unsigned_abs}
 use Rattle.std.proofs.lemmas.Bool.Decides.{nat_tests}
 use Rattle.std.proofs.lemmas.Int.{ints}
+use Rattle.std.proofs.Math.Nat.{mul-suc}
+use Rattle.lin.specs.declared.scope.Binding.TheVariants.{Loop as Bound}
 use Rattle.bounds.specs.Spans.{numbers}
 use Rattle.lin.specs.Forms.{Form, number, is_within_limits, without, combined, same_form}
 use Rattle.lin.specs.declared.span.Span1.{Span1}
@@ -18,7 +20,7 @@ use Rattle.soundness.specs.Obligations.{Binder, Rules, exactly, form_has}
 use Rattle.soundness.specs.Shown.{is_within, is_seated}
 use Rattle.soundness.specs.Binders.View.{grid_from}
 use Rattle.soundness.proofs.Refines.{eq_refl, eq_true, name_refl, number_true}
-use Rattle.rules.specs.Bounding.Scopes.{most_symbols, scope_of, shown_at_most}
+use Rattle.rules.specs.Bounding.Scopes.{most_symbols, binding_of, symbol_count, scope_of, shown_at_most}
 use Rattle.sched.specs.declared.schedule.Split.{Split}
 use Rattle.sched.specs.declared.schedule.Tail.{Tail}
 use Rattle.sched.specs.declared.schedule.Tail.TheVariants.{Guard, Roundup, Shift}
@@ -33,7 +35,7 @@ use Rattle.tails.specs.Maps.{spelled_out}
 use Rattle.tails.specs.Apart.{is_steady}
 use Rattle.lower.proofs.Blocking.{IsSmall, CutFits}
 use Rattle.completeness.specs.Blocked.{is_tailed}
-use Rattle.completeness.proofs.GridScope.{number_limited}
+use Rattle.completeness.proofs.GridScope.{number_limited, grid_tells}
 use Rattle.completeness.proofs.GridCounts.{IsShort}
 use Rattle.completeness.proofs.SelfBounds.{form_self, number_below}
 use Rattle.completeness.proofs.Searched.{one_of, up_limited}
@@ -54,11 +56,12 @@ use Rattle.completeness.proofs.TailTurns.{is_shifted, keeps_rest, wide_rest, not
 use Rattle.completeness.proofs.TailLines.{lines_of, IsLowLine}
 use Rattle.completeness.proofs.TailSums.{IsSum, course, IsLimitAt, LinesFit}
 use Rattle.completeness.proofs.TailTests.{IsClaimed, IsPlaced, AreLow}
-use Rattle.completeness.proofs.TailBounds.{seat_self, seat_loop, seat_block, seat_split, seat_kept_block, seat_kept_split, seat_pair, steady_one, grid_there}
-use Rattle.completeness.proofs.TailDims.{last_of, end_of_all, all_of, kept_cap, reaches, outer_low, outer_last, inner_low, inner_last, few_numbers}
+use Rattle.completeness.proofs.TailBounds.{seat_self, seat_loop, seat_block, seat_split, seat_kept_block, seat_kept_split, seat_pair, steady_one}
+use Rattle.completeness.proofs.TailDims.{full_last, last_of, end_of_all, all_of, kept_cap, reaches, outer_low, outer_last, inner_low, inner_last, few_numbers}
 use Rattle.completeness.proofs.Courses.{line_has, span_at, begin_of}
 use Rattle.completeness.proofs.CourseSums.{number_made, pair_made, pair_limited, alone_fits, pair_caps, block_shifted, block_caps, start_fits, block_order}
 use Rattle.completeness.proofs.ShiftSeats.{seat_shift}
+use Rattle.completeness.proofs.HeadSeats.{HeadLet, around_from, around_spells, grid_kept, at_inside, block_claimed, seat_head, head_reached}
 use Rattle.completeness.proofs.BlockNames.{kept_first, kept_neither, no_more, without_pair, left_comes}
 use Rattle.completeness.proofs.BlockNames as named
 
@@ -500,18 +503,32 @@ module _ (xs : List (List ℕ)) (ls : List NestLoop) (cuts : List Split) (rs : L
                 let outer = k.behind in
                 subst (IsBelow (n + j)) form (below (low k.split.whole) (n + k.outer_at) (n + r.inner_at) (pos k.split.factor) (omega (arith, outer)) (omega (arith, inner, outer)))
 
-    module _ (rules : Rules) (bound : rules.at_most ≡ shown_at_most) (counts : List ℕ) (few : length counts ≤ n) (shorts : AllByRecursion IsShort counts)
+    module _ (rules : Rules) (bound : rules.at_most ≡ shown_at_most) (counts : List ℕ) (heads : List HeadLet) (few : length counts + length heads ≤ n)
+        (short_heads : length counts + length heads ≤ most_symbols) (shorts : AllByRecursion IsShort counts)
         (near : (j : ℕ) (t : Turning) → slice_get ts j ≡ Some t → (unsigned_abs t.low ≤ 2 ^ 36) × (unsigned_abs t.last ≤ 2 ^ 36))
         (tells : (y : Span1) → spelled_out (grid_from 0 counts) y ≡ y) (claim : List ℕ → Span1) (place : List ℕ → Places) where
       abbrev bs : List Binder
-      bs = grid_from 0 counts
+      bs = around_from (length counts) heads (grid_from 0 counts)
+
+      -- the form has no let of the group's head
+      abbrev IsFree : Form → Type 0
+      IsFree u = (j : ℕ) → form_has (length counts + j) u ≡ false
+
+      free_grid : (z c : ℤ) (s : ℕ) → s < length counts → IsFree (one_of z c s)
+      free_grid z c s less j = (let away : (s == length counts + j) ≡ false = grind (arith, nat_tests, less) in ap (λ (b : Bool). b || false) away)
+
+      spells : (l u : Form) (cs : List Form) → IsFree u → ((j : ℕ) → list_any (form_has (length counts + j)) cs ≡ false) →
+          spelled_out bs (record { lower = l ∷ []; upper = u ∷ cs }) ≡ record { lower = l ∷ []; upper = u ∷ cs }
+      spells l u cs free none =
+          around_spells (length counts) heads (grid_from 0 counts) (record { lower = l ∷ []; upper = u ∷ cs }) (λ j. let one = free j in let two = none j in λ i. one i || two i)
+          ∙ tells (record { lower = l ∷ []; upper = u ∷ cs })
 
       -- a coordinate of this form is as the tests ask, where the nest has few symbols
       pub record HasPlain (x : List ℕ) (f : Form) : Type 0 where
         pub sum : IsSum factor n ts owner line lim tops keep x
         pub is : begin_of (course factor n ts owner line lim tops keep x sum) ≡ f
         pub claimed : IsClaimed factor n ts owner line lim tops keep rules bs claim x sum
-        pub placed : n + length ts ≤ most_symbols → IsPlaced factor n ts owner line lim tops rules counts few place x f
+        pub placed : n + length ts ≤ most_symbols → IsPlaced factor n ts owner line lim tops rules bs place x f
 
       shown : (f g : Form) → (f ≡ g) → is_within_limits f ≡ true → rules.at_most bs f g ≡ true
       shown f g e limited = (λ j. bound j bs f (sym e j)) ∙ form_self (scope_of bs) f limited
@@ -524,15 +541,19 @@ module _ (xs : List (List ℕ)) (ls : List NestLoop) (cuts : List Split) (rs : L
       or_true true = refl
       or_true false = refl
 
-      within_caps : (x : List ℕ) (k : IsSum factor n ts owner line lim tops keep x) (l u : Form) (cs : List Form) → span_at line lim tops factor [] (course factor n ts owner line lim tops
-          keep x k) ≡ record { lower = l ∷ []; upper = u ∷ cs } → IsCap cs →
+      within_caps : (x : List ℕ) (k : IsSum factor n ts owner line lim tops keep x) (l u : Form) (cs : List Form) → IsFree u → span_at line lim tops factor [] (course factor n ts owner line lim
+          tops keep x k) ≡ record { lower = l ∷ []; upper = u ∷ cs } → IsCap cs →
           (claim_low claim_high : Form) → claim x ≡ record { lower = claim_low ∷ []; upper = claim_high ∷ cs } → rules.at_most bs l claim_low ≡ true → rules.at_most bs claim_high u ≡ true →
           IsClaimed factor n ts owner line lim tops keep rules bs claim x k
-      within_caps x k l u cs reach cap cl ch of_claim one two =
+      within_caps x k l u cs free reach cap cl ch of_claim one two =
           let reached : spelled_out bs (span_at line lim tops factor [] (course factor n ts owner line lim tops keep x k)) ≡ record { lower = l ∷ []; upper = u ∷ cs } =
-          tells (span_at line lim tops factor [] (course factor n ts owner line lim tops keep x k)) ∙ reach in
+          ap (spelled_out bs) reach ∙ spells l u cs free (none cs cap) in
           (λ j. is_within rules bs (of_claim j) (reached j)) ∙ (λ j. ((one j || false) && true) && of cs cap j)
         where
+          none : (cs : List Form) → IsCap cs → (j : ℕ) → list_any (form_has (length counts + j)) cs ≡ false
+          none cs (inl e) j = ap (list_any (form_has (length counts + j))) e
+          none cs (inr (z, e, near_z)) j = ap (list_any (form_has (length counts + j))) e
+
           of : (cs : List Form) → IsCap cs → list_all (λ m. list_any (λ v. rules.at_most bs v m) (ch ∷ cs)) (u ∷ cs) ≡ true
           of cs (inl e) = (λ j. list_all (λ m. list_any (λ v. rules.at_most bs v m) (ch ∷ e j)) (u ∷ e j)) ∙ (λ j. (two j || false) && true)
           of cs (inr (z, e, near_z)) =
@@ -541,22 +562,22 @@ module _ (xs : List (List ℕ)) (ls : List NestLoop) (cuts : List Split) (rs : L
               (λ j. list_all (λ m. list_any (λ v. rules.at_most bs v m) (ch ∷ e j)) (u ∷ e j))
               ∙ (λ j. (two j || (rules.at_most bs (number z) u || false)) && ((rules.at_most bs ch (number z) || (self j || false)) && true)) ∙ (λ j. last_one j && true)
 
-      within_same : (x : List ℕ) (k : IsSum factor n ts owner line lim tops keep x) (l u : Form) → span_at line lim tops factor [] (course factor n ts owner line lim tops keep x k) ≡ record
-          { lower = l ∷ []; upper = u ∷ [] } → (claim_low claim_high : Form) →
+      within_same : (x : List ℕ) (k : IsSum factor n ts owner line lim tops keep x) (l u : Form) → IsFree u → span_at line lim tops factor [] (course factor n ts owner line lim tops keep x k)
+          ≡ record { lower = l ∷ []; upper = u ∷ [] } → (claim_low claim_high : Form) →
           claim x ≡ record { lower = claim_low ∷ []; upper = claim_high ∷ [] } → rules.at_most bs l claim_low ≡ true → rules.at_most bs claim_high u ≡ true → IsClaimed factor n ts owner
           line lim tops keep rules bs claim x k
-      within_same x k l u reach cl ch of_claim one two = within_caps x k l u [] reach (inl refl) cl ch of_claim one two
+      within_same x k l u free reach cl ch of_claim one two = within_caps x k l u [] free reach (inl refl) cl ch of_claim one two
 
       -- all numbers up to one that is kept
-      within_last : (x : List ℕ) (k : IsSum factor n ts owner line lim tops keep x) (l u : Form) (z : ℤ) → span_at line lim tops factor [] (course factor n ts owner line lim tops keep x k)
+      within_last : (x : List ℕ) (k : IsSum factor n ts owner line lim tops keep x) (l u : Form) (z : ℤ) → IsFree u → span_at line lim tops factor [] (course factor n ts owner line lim tops keep x k)
           ≡ record { lower = l ∷ []; upper = u ∷ number z ∷ [] } →
           unsigned_abs z ≤ 2 ^ 40 → (claim_low : Form) → claim x ≡ record { lower = claim_low ∷ []; upper = number z ∷ [] } → rules.at_most bs l claim_low ≡ true → rules.at_most bs (number
           z) u ≡ true →
           IsClaimed factor n ts owner line lim tops keep rules bs claim x k
-      within_last x k l u z reach near_z cl of_claim one two =
+      within_last x k l u z free reach near_z cl of_claim one two =
           let self = shown (number z) (number z) refl (number_limited z near_z) in
           let reached : spelled_out bs (span_at line lim tops factor [] (course factor n ts owner line lim tops keep x k)) ≡ record { lower = l ∷ []; upper = u ∷ number z ∷ [] } =
-          tells (span_at line lim tops factor [] (course factor n ts owner line lim tops keep x k)) ∙ reach in
+          ap (spelled_out bs) reach ∙ spells l u (number z ∷ []) free (λ j. refl) in
           (λ j. is_within rules bs (of_claim j) (reached j)) ∙ (λ j. ((one j || false) && true) && ((two j || false) && ((self j || false) && true)))
 
       -- what a loop without a further upper form keeps at
@@ -573,14 +594,16 @@ module _ (xs : List (List ℕ)) (ls : List NestLoop) (cuts : List Split) (rs : L
 
       -- ---- a form over the grid
 
-      pub plain_grid : (x : List ℕ) → (f : Form) → form_named grid x ≡ Some f → (s : ℕ) → f ≡ counted_from (low x) s → s < n → ((l : NestLoop) × In l ls × (l.name ≡ x)) → unsigned_abs (low
+      pub plain_grid : (x : List ℕ) → (f : Form) → form_named grid x ≡ Some f → (s : ℕ) → f ≡ counted_from (low x) s → s < n → s < length counts → ((l : NestLoop) × In l ls × (l.name ≡ x))
+          → unsigned_abs (low
           x) ≤ 2 ^ 36 →
           claim x ≡ exactly (counted_from (low x) s) → place x ≡ From (counted_from (low x) s) 1 → HasPlain x f
-      plain_grid x f named s is less loop low_near claim_is place_is = record {
+      plain_grid x f named s is less inside loop low_near claim_is place_is = record {
         sum = k;
         is = sym is;
-        claimed = within_same x k form form (ap (λ (y : Span1). capped y []) (sym (begins_so factor [] form [] tt))) form form claim_is (shown form form refl limited) (shown form form refl limited);
-        placed = λ short. subst (λ (g : Form). IsPlaced factor n ts owner line lim tops rules counts few place x g) (sym is) (record {
+        claimed = within_same x k form form (free_grid (low x) (pos 1) s inside) (ap (λ (y : Span1). capped y []) (sym (begins_so factor [] form [] tt))) form form claim_is (shown form form
+            refl limited) (shown form form refl limited);
+        placed = λ short. subst (λ (g : Form). IsPlaced factor n ts owner line lim tops rules bs place x g) (sym is) (record {
           steady = ap (is_steady false (along (lines_of line lim n ts))) place_is ∙ steady_one line lim n ts short rules bound bs near limits_within (low x) (pos 1) s 1 less;
           seated = ap (is_seated rules (along (lines_of line lim n ts) ++ bs) (exactly form)) place_is ∙ seat_self line lim n ts short rules bound bs near limits_within form limited;
         });
@@ -615,7 +638,7 @@ module _ (xs : List (List ℕ)) (ls : List NestLoop) (cuts : List Split) (rs : L
       plain_loop x mx i t at looping name claim_is place_is = record {
         sum = k;
         is = refl;
-        claimed = within_same x k (number (low x)) (number (last x)) (λ j. capped (reached j) (no_caps j)) (number (low x)) (number (last x)) claim_is
+        claimed = within_same x k (number (low x)) (number (last x)) (λ j. refl) (λ j. capped (reached j) (no_caps j)) (number (low x)) (number (last x)) claim_is
             (shown (number (low x)) (number (low x)) refl (number_limited (low x) (omega (arith, low_near))))
             (shown (number (last x)) (number (last x)) refl (number_limited (last x) (omega (arith, last_near))));
         placed = λ short. record {
@@ -802,12 +825,13 @@ module _ (xs : List (List ℕ)) (ls : List NestLoop) (cuts : List Split) (rs : L
         plain_block plain_c s inside less over f is limited limit claim_is place_is = record {
           sum = k;
           is = sym is;
-          claimed = within_caps c.whole k (one_of (low c.whole) (pos c.factor) s) (one_of ((pos c.factor -ℤ pos 1) +ℤ low c.whole) (pos c.factor) s) cap (λ j. capped (reached j) (caps_are j)) cap_is
+          claimed = within_caps c.whole k (one_of (low c.whole) (pos c.factor) s) (one_of ((pos c.factor -ℤ pos 1) +ℤ low c.whole) (pos c.factor) s) cap
+              (free_grid ((pos c.factor -ℤ pos 1) +ℤ low c.whole) (pos c.factor) s inside) (λ j. capped (reached j) (caps_are j)) cap_is
               (one_of (low c.whole) (pos c.factor) s) (one_of ((pos c.factor -ℤ pos 1) +ℤ low c.whole) (pos c.factor) s) claim_is
               (shown (one_of (low c.whole) (pos c.factor) s) (one_of (low c.whole) (pos c.factor) s) refl (one_limited (low c.whole) (pos c.factor) s (omega (arith, near_low)) (omega (arith, wide))))
               (shown (one_of ((pos c.factor -ℤ pos 1) +ℤ low c.whole) (pos c.factor) s) (one_of ((pos c.factor -ℤ pos 1) +ℤ low c.whole) (pos c.factor) s) refl
               (one_limited ((pos c.factor -ℤ pos 1) +ℤ low c.whole) (pos c.factor) s (high_near c.factor (low c.whole) wide near_low) (omega (arith, wide))));
-          placed = λ short. subst (λ (g : Form). IsPlaced factor n ts owner line lim tops rules counts few place c.whole g) (sym is) (record {
+          placed = λ short. subst (λ (g : Form). IsPlaced factor n ts owner line lim tops rules bs place c.whole g) (sym is) (record {
             steady = ap (is_steady false (along (lines_of line lim n ts))) place_is ∙ steady_one line lim n ts short rules bound bs near limits_within (low c.whole) (pos c.factor) s c.factor less;
             seated = ap (is_seated rules (along (lines_of line lim n ts) ++ bs) (exactly form)) place_is
                 ∙ (λ j. is_seated rules (along (lines_of line lim n ts) ++ bs) (exactly (pair (low c.whole) s (pos (size_is j)) (n + i))) (From (one_of (low c.whole) (pos (size_is j)) s) (size_is j)))
@@ -821,7 +845,7 @@ module _ (xs : List (List ℕ)) (ls : List NestLoop) (cuts : List Split) (rs : L
                 seat_block line lim n ts short rules bound bs near limits_within s i size t at (loop_is (line (n + i)) looping) (inner_bare c m e i t at name) less t_low t_last_so size_few
                 (low c.whole) low_here
             seat_by short true e =
-                let there = grid_there line lim n ts short counts shorts few s inside in
+                let there = grid_kept line lim n ts short counts heads shorts few s inside in
                 seat_kept_block line lim n ts short rules bound bs near limits_within s i size t at (loop_is (line (n + i)) looping) less (numbers (pos 0) (pos there.0 -ℤ pos 1)) there.1
                 refl t_low t_last_so size_few (low c.whole)
                 (last c.whole) low_here (near_whole c m).1 (limit e ∙ (λ j. left_over (last c.whole) (low c.whole) (pos (size_is j)) s ∷ []))
@@ -927,6 +951,184 @@ module _ (xs : List (List ℕ)) (ls : List NestLoop) (cuts : List Split) (rs : L
 
                 turned : (z y : ℤ) → (z +ℤ (pos 1 *ℤ y +ℤ pos 0)) ≡ y +ℤ z
                 turned z y = omega (arith, ints)
+
+        -- ---- a let of the group's head tells the block
+
+        -- where a block that is shifted begins is over the grid, in a let around the nest
+        pub plain_head : is_shifted c ≡ true → (g : ℕ) → g < length counts → g < n → form_named grid c.outer ≡ Some (counted_from (pos 0) g) →
+            slice_get counts g ≡ Some (numbers_named rs c.outer).count → (j : ℕ) →
+            slice_get heads j ≡ Some (record { form = one_of (low c.whole) (pos c.factor) g; room = room (numbers_named rs c.whole) c.factor }) → (f : Form) →
+            f ≡ pair (pos 0) (length counts + j) (pos 1) (n + i) → claim c.whole ≡ record {
+              lower = one_of (low c.whole) (pos c.factor) g ∷ [];
+              upper = one_of ((pos c.factor -ℤ pos 1) +ℤ low c.whole) (pos c.factor) g ∷ (if has_rest c (count c.whole) then number (last c.whole) ∷ [] else []);
+            } → place c.whole ≡ From (alone (length counts + j)) c.factor → HasPlain c.whole f
+        plain_head shifted g inside less over counted_g b head f is claim_is place_is = record {
+          sum = k;
+          is = sym is;
+          claimed = (λ j. is_within rules bs (claim_so j) (spelled_out bs (capped (reached j) (no_caps j)))) ∙ within;
+          placed = λ short. subst (λ (q : Form). IsPlaced factor n ts owner line lim tops rules bs place c.whole q) (sym is) (record {
+            steady = ap (is_steady false (along (lines_of line lim n ts))) place_is ∙ steady_one line lim n ts short rules bound bs near limits_within (pos 0) (pos 1) let_symbol c.factor let_less;
+            seated = ap (is_seated rules (along (lines_of line lim n ts) ++ bs) (exactly form)) place_is
+                ∙ ap (λ (q : ℕ). is_seated rules (along (lines_of line lim n ts) ++ bs) (exactly form) (From (alone let_symbol) q)) size_is
+                ∙ seat_head line lim n ts short rules bound bs near limits_within let_symbol i size t at (loop_is (line (n + i)) looping) bare let_less t_low t_last_so size_few;
+          });
+        }
+          where
+            let_symbol : ℕ
+            let_symbol = length counts + b
+
+            let_less : let_symbol < n
+            let_less = (let in_heads = at_inside heads b (record { form = one_of (low c.whole) (pos c.factor) g; room = room (numbers_named rs c.whole) c.factor }) head in omega (
+              arith,
+              in_heads,
+              few,
+            ))
+
+            bare : lim (n + i) ≡ []
+            bare = inner_bare c m (tailed_shift c shifted).1 i t at name
+
+            form : Form
+            form = pair (pos 0) let_symbol (pos 1) (n + i)
+
+            parts : List Item
+            parts = item_of (n + i) t ∷ []
+
+            no_caps : caps lim tops [] (item_of (n + i) t ∷ []) ≡ []
+            no_caps = (let none = no_cap i t at bare in λ j. none j ++ [])
+
+            differ : (let_symbol == n + i) ≡ false
+            differ = (let before = let_less in grind (arith, nat_tests, before))
+
+            limited : is_within_limits form ≡ true
+            limited = pair_limited (pos 0) let_symbol (pos 1) (n + i) (omega arith) (omega arith)
+
+            reached : now factor [] (Sums form parts) ≡ record { lower = one_of (pos 0) (pos 1) let_symbol ∷ []; upper = one_of (pos size) (pos 1) let_symbol ∷ [] }
+            reached = head_reached factor let_symbol size (item_of (n + i) t) differ once_inner t_low t_last_so
+
+            last_turn : ℕ
+            last_turn = top (count c.whole) c.factor
+
+            times_few : last_turn * suc size ≤ 2 ^ 32
+            times_few = subst (λ (q : ℕ). last_turn * q ≤ 2 ^ 32) size_is (few_numbers rs c fit small some)
+
+            times_is : (a q : ℕ) → pos (suc q) *ℤ pos a ≡ pos (a * suc q)
+            times_is a q = omega (arith, ints)
+
+            turns_few : last_turn ≤ 2 ^ 32
+            turns_few = by last_turn size times_few
+              where
+                by : (a q : ℕ) → a * suc q ≤ 2 ^ 32 → a ≤ 2 ^ 32
+                by a q h = (let product = mul-suc a q in omega (arith, h, product))
+
+            grid_is : binding_of (grid_from 0 counts) g ≡ Bound (record { lower = number (pos 0) ∷ []; upper = number (pos last_turn) ∷ [] })
+            grid_is =
+                (grid_tells counts shorts).tells g (numbers_named rs c.outer).count counted_g
+                ∙ (let end = outer_last rs c fit small some in let begin = outer_low rs c fit small some in
+                ap (λ (z : ℤ). Bound (record { lower = number (pos 0) ∷ []; upper = number z ∷ [] })) (by (low c.outer) (count c.outer) (pos last_turn) begin end))
+              where
+                by : (z : ℤ) (q : ℕ) (e : ℤ) → z ≡ pos 0 → (z +ℤ pos q) -ℤ pos 1 ≡ e → pos q -ℤ pos 1 ≡ e
+                by z q e zero_low end = omega (arith, ints, zero_low, end)
+
+            grid_known : g < symbol_count (grid_from 0 counts)
+            grid_known = (let many = (grid_tells counts shorts).many in omega (arith, many, inside))
+
+            room_is : room (numbers_named rs c.whole) c.factor ≡ last c.whole -ℤ pos size
+            room_is = by (last c.whole) c.factor size size_is
+              where
+                by : (z : ℤ) (p q : ℕ) → p ≡ suc q → (z -ℤ pos p) +ℤ pos 1 ≡ z -ℤ pos q
+                by z p q e = omega (arith, ints, e)
+
+            head_so : slice_get heads b ≡ Some (record { form = one_of (low c.whole) (pos (suc size)) g; room = room (numbers_named rs c.whole) c.factor })
+            head_so = head ∙ (λ j. Some (record { form = one_of (low c.whole) (pos (size_is j)) g; room = room (numbers_named rs c.whole) c.factor }))
+
+            one_less : pos c.factor -ℤ pos 1 ≡ pos size
+            one_less = (let are = size_is in omega (arith, ints, are))
+
+            claim_so : claim c.whole ≡ record {
+              lower = one_of (low c.whole) (pos (suc size)) g ∷ [];
+              upper = one_of (pos size +ℤ low c.whole) (pos (suc size)) g ∷ (if has_rest c (count c.whole) then number (last c.whole) ∷ [] else []);
+            }
+            claim_so = claim_is ∙ (λ j. record {
+              lower = one_of (low c.whole) (pos (size_is j)) g ∷ [];
+              upper = one_of (one_less j +ℤ low c.whole) (pos (size_is j)) g ∷ (if has_rest c (count c.whole) then number (last c.whole) ∷ [] else []);
+            })
+
+            full : has_rest c (count c.whole) ≡ false → ((pos size +ℤ low c.whole) +ℤ pos (suc size) *ℤ pos last_turn) ≤ℤ last c.whole
+            full e = (let end = full_last rs c fit small some e in by (low c.whole) (last c.whole) last_turn c.factor size size_is end)
+              where
+                by : (z e : ℤ) (a p q : ℕ) → p ≡ suc q → e ≡ z +ℤ (pos (a * p) +ℤ (pos p -ℤ pos 1)) → ((pos q +ℤ z) +ℤ pos (suc q) *ℤ pos a) ≤ℤ e
+                by z e a p q is end =
+                    let product = times_is a q in
+                    let same : a * p ≡ a * suc q = ap (λ (w : ℕ). a * w) is in
+                    subst (λ (w : ℤ). ((pos q +ℤ z) +ℤ w) ≤ℤ e) (sym product) (sums (a * p) (a * suc q) same end)
+                  where
+                    sums : (x y : ℕ) → x ≡ y → e ≡ z +ℤ (pos x +ℤ (pos p -ℤ pos 1)) → ((pos q +ℤ z) +ℤ pos y) ≤ℤ e
+                    sums x y same ends = omega (arith, ints, is, same, ends)
+
+            within : is_within rules bs (record {
+              lower = one_of (low c.whole) (pos (suc size)) g ∷ [];
+              upper = one_of (pos size +ℤ low c.whole) (pos (suc size)) g ∷ (if has_rest c (count c.whole) then number (last c.whole) ∷ [] else []);
+            }) (spelled_out bs (record { lower = one_of (pos 0) (pos 1) let_symbol ∷ []; upper = one_of (pos size) (pos 1) let_symbol ∷ [] })) ≡ true
+            within =
+                block_claimed rules bound (length counts) heads (grid_from 0 counts) tells short_heads g last_turn inside grid_known grid_is (low c.whole) size size_few (last c.whole) low_here
+                (near_whole c m).1 (let few_turns = turns_few in omega (arith, few_turns)) (subst (λ (z : ℤ). unsigned_abs z ≤ 2 ^ 37) (sym (times_is last_turn size)) (let few_all = times_few in
+                omega (arith, few_all)))
+                (room (numbers_named rs c.whole) c.factor) room_is b head_so (has_rest c (count c.whole)) full
+
+            mine : (j : ℕ) (v : Turning) → slice_get ts j ≡ Some v → is_loop (line (n + j)) ≡ true → is_left (n + j) parts ≡ same_name c.whole (owner j)
+            mine j v there loop_j = one_only (n + i == n + j) ∙ of (n + i == n + j) refl
+              where
+                of : (b : Bool) → (n + i == n + j) ≡ b → (n + i == n + j) ≡ same_name c.whole (owner j)
+                of true e = e ∙ sym (whose_inner j v there e)
+                of false e = e ∙ sym (other_owner c.whole j v there loop_j (not_whole j v there loop_j) half)
+                  where
+                    half : (d : Split) → In d cuts → d.whole ≡ c.whole → (v.name ≡ d.outer) ⊎ (v.name ≡ d.inner) → ⊥
+                    half d md q h = by (subst (λ (e : Split). (v.name ≡ e.outer) ⊎ (v.name ≡ e.inner)) (by_whole cuts others d c md m q) h)
+                      where
+                        by : (v.name ≡ c.outer) ⊎ (v.name ≡ c.inner) → ⊥
+                        by (inl p) = (let clash : Some (counted_from (pos 0) g) ≡ None = sym over ∙ ap (form_named grid) (sym p) ∙ nest_own grid v (turns j v there loop_j) in cc clash)
+                        by (inr p) = apart_place i j t v at there e (name ∙ sym p)
+
+            k : IsSum factor n ts owner line lim tops keep c.whole
+            k = record {
+              form = form;
+              parts = parts;
+              fits = sum_one factor form limited (item_of (n + i) t) once_inner (has_pair (pos 0) let_symbol (pos 1) (n + i) (n + i) ∙ true_behind (let_symbol == n + i) (n + i == n + i) (eq_refl (n
+                  + i)))
+                  (factor_two (pos 0) let_symbol (pos 1) (n + i) differ) (omega arith) (near i t at).0 (near i t at).1;
+              own = own_one;
+              outer = outer_one;
+              mine = mine;
+              topped = λ j v q top there is tops_are left. absurd (never j q is (sym (one_only (n + i == n + j)) ∙ left));
+              opening = inl tt;
+              opens = no_opens c.whole no_let;
+            }
+              where
+                never : (j : ℕ) (q : Form) → lim (n + j) ≡ q ∷ [] → (n + i == n + j) ≡ true → ⊥
+                never j q is e = (let clash : [] ≡ q ∷ [] = sym bare ∙ ap lim (eq_true (n + i) (n + j) e) ∙ is in cc clash)
+
+                true_behind : (b d : Bool) → d ≡ true → (b || d) ≡ true
+                true_behind true d e = refl
+                true_behind false d e = e
+
+                no_let : (d : Split) → In d cuts → d.whole ≡ c.whole → (p : ℕ) (u : Turning) → slice_get ts p ≡ Some u → IsLetOf n ts line p u → u.name ≡ c.whole → ⊥
+                no_let d md e p u there k q =
+                    let same : k.split ≡ c = by_whole cuts others k.split c k.among m (sym k.name ∙ q) in
+                    let clash : Some (counted_from (pos 0) g) ≡ None =
+                    sym over ∙ ap (form_named grid) (ap (λ (x : Split). x.outer) (sym same) ∙ sym k.outer_name) ∙ nest_own grid k.outer (turns k.outer_at k.outer k.outer_there k.outer_loop) in
+                    cc clash
+
+                own_one : (v : Item) → In v (item_of (n + i) t ∷ []) → (j : ℕ) × (w : Turning) × (slice_get ts j ≡ Some w) × (keep (n + j) ≡ true) × (is_loop (line (n + j)) ≡ true) × (v ≡
+                    item_of (n + j) w)
+                own_one v (inl e) = (i, t, at, keep_of i t at looping o_inner, looping, e)
+                own_one v (inr q) = absurd q
+
+                outer_one : (j : ℕ) → is_left (n + j) (item_of (n + i) t ∷ []) ≡ false → form_has (n + j) (pair (pos 0) let_symbol (pos 1) (n + i)) ≡ false
+                outer_one j e =
+                    let before = let_less in
+                    let grid_apart : (let_symbol == n + j) ≡ false = grind (arith, nat_tests, before) in
+                    let away : (n + i == n + j) ≡ false = sym (one_only (n + i == n + j)) ∙ e in
+                    has_pair (pos 0) let_symbol (pos 1) (n + i) (n + j) ∙ (λ q. grid_apart q || away q)
 
         -- ---- both loops in the nest
 
@@ -1109,7 +1311,7 @@ module _ (xs : List (List ℕ)) (ls : List NestLoop) (cuts : List Split) (rs : L
             sum = k;
             is = sym is;
             claimed = claimed_by (keeps_rest rs c) refl;
-            placed = λ short. subst (λ (g : Form). IsPlaced factor n ts owner line lim tops rules counts few place c.whole g) (sym is) (record {
+            placed = λ short. subst (λ (g : Form). IsPlaced factor n ts owner line lim tops rules bs place c.whole g) (sym is) (record {
               steady = ap (is_steady false (along (lines_of line lim n ts))) place_is;
               seated = ap (is_seated rules (along (lines_of line lim n ts) ++ bs) (exactly form)) place_is
                   ∙ ap (λ (q : ℕ). is_seated rules (along (lines_of line lim n ts) ++ bs) (exactly (pair (low c.whole) (n + p) (pos q) (n + i)))
@@ -1184,7 +1386,7 @@ module _ (xs : List (List ℕ)) (ls : List NestLoop) (cuts : List Split) (rs : L
 
               claimed_by : (b : Bool) → keeps_rest rs c ≡ b → IsClaimed factor n ts owner line lim tops keep rules bs claim c.whole k
               claimed_by false e =
-                  within_same c.whole k (number (low c.whole)) (number end)
+                  within_same c.whole k (number (low c.whole)) (number end) (λ j. refl)
                   (λ j. capped (reached j) ((caps_are ∙ ap (λ (b : Bool). if b then number (last c.whole) ∷ [] else []) (tailed_is c plain_c ∙ e)) j)) (number (low c.whole)) (number end)
                   (claim_is ∙ ap (λ (b : Bool). numbers (low c.whole) (if b then last c.whole else end)) (tailed_is c plain_c ∙ e))
                   (shown (number (low c.whole)) (number (low c.whole)) refl (number_limited (low c.whole) (omega (arith, near_low))))
@@ -1192,7 +1394,7 @@ module _ (xs : List (List ℕ)) (ls : List NestLoop) (cuts : List Split) (rs : L
               claimed_by true e =
                   let near_last = (near_whole c m).1 in
                   let le = reaches rs c fit small some in
-                  within_last c.whole k (number (low c.whole)) (number end) (last c.whole)
+                  within_last c.whole k (number (low c.whole)) (number end) (last c.whole) (λ j. refl)
                   (λ j. capped (reached j) ((caps_are ∙ ap (λ (b : Bool). if b then number (last c.whole) ∷ [] else []) (tailed_is c plain_c ∙ e)) j)) (omega (arith, near_last)) (number (low c.whole))
                   (claim_is ∙ ap (λ (b : Bool). numbers (low c.whole) (if b then last c.whole else end)) (tailed_is c plain_c ∙ e))
                   (shown (number (low c.whole)) (number (low c.whole)) refl (number_limited (low c.whole) (omega (arith, near_low))))
@@ -1205,7 +1407,8 @@ module _ (xs : List (List ℕ)) (ls : List NestLoop) (cuts : List Split) (rs : L
           plain_pair rests before q w at_q name_q behind is_pair limited claim_is place_is = record {
             sum = k;
             is = refl;
-            claimed = within_last c.whole k (number (low c.whole)) (number end) (last c.whole) (λ j. capped (reached j) (number (last c.whole) ∷ [])) (omega (arith, near_last)) (number (low c.whole))
+            claimed = within_last c.whole k (number (low c.whole)) (number end) (last c.whole) (λ j. refl) (λ j. capped (reached j) (number (last c.whole) ∷ [])) (omega (arith, near_last))
+                (number (low c.whole))
                 (claim_is ∙ ap (λ (b : Bool). numbers (low c.whole) (if b then last c.whole else end)) tailed)
                 (shown (number (low c.whole)) (number (low c.whole)) refl (number_limited (low c.whole) (omega (arith, near_low))))
                 ((λ j. bound j bs (number (last c.whole)) (number end)) ∙ number_below (scope_of bs) (last c.whole) end (reaches rs c fit small some) (omega (arith, near_last)) end_few);
@@ -1290,11 +1493,12 @@ module _ (xs : List (List ℕ)) (ls : List NestLoop) (cuts : List Split) (rs : L
           plain_shift shifted long q w at_q let_q name_q behind is_block f is claim_is place_is = record {
             sum = k;
             is = sym is;
-            claimed = within_last c.whole k (number (low c.whole)) (number end) (last c.whole) (λ j. capped (reached j) (number (last c.whole) ∷ [])) (omega (arith, near_last)) (number (low c.whole))
+            claimed = within_last c.whole k (number (low c.whole)) (number end) (last c.whole) (λ j. refl) (λ j. capped (reached j) (number (last c.whole) ∷ [])) (omega (arith, near_last))
+                (number (low c.whole))
                 (claim_is ∙ ap (λ (b : Bool). numbers (low c.whole) (if b then last c.whole else end)) tailed)
                 (shown (number (low c.whole)) (number (low c.whole)) refl (number_limited (low c.whole) (omega (arith, near_low))))
                 ((λ j. bound j bs (number (last c.whole)) (number end)) ∙ number_below (scope_of bs) (last c.whole) end (reaches rs c fit small some) (omega (arith, near_last)) end_few);
-            placed = λ short. subst (λ (g : Form). IsPlaced factor n ts owner line lim tops rules counts few place c.whole g) (sym is) (record {
+            placed = λ short. subst (λ (g : Form). IsPlaced factor n ts owner line lim tops rules bs place c.whole g) (sym is) (record {
               steady = ap (is_steady false (along (lines_of line lim n ts))) place_is;
               seated = ap (is_seated rules (along (lines_of line lim n ts) ++ bs) (exactly (pair (pos 0) (n + q) (pos 1) (n + i)))) place_is
                   ∙ ap (λ (b : Bool). is_seated rules (along (lines_of line lim n ts) ++ bs) (exactly (pair (pos 0) (n + q) (pos 1) (n + i)))

@@ -1,8 +1,8 @@
 -- The nests of a function whose loops are split once, with any tail, in any order: their loops and lets, and that each variable's coordinate is as the tests of nests ask.
-use Rattle.std.proofs.Common.{◌≡◌, ℕ, suc, ◌+◌, ◌-◌, ◌<◌, ◌≤◌, ◌^◌, Bool, true, false, ◌&&◌, List, [], ◌∷◌, ◌++◌, length, map, take}
+use Rattle.std.proofs.Common.{◌≡◌, ℕ, suc, ◌+◌, ◌-◌, ◌<◌, ◌≤◌, ◌^◌, Bool, true, false, List, [], ◌∷◌, ◌++◌, length, map, take}
 use Rattle.std.proofs.Common.{Option, Some, None, refl, sym, ap, ◌∙◌, subst, inl, inr, ◌⊎◌, arith}
 use Rattle.std.specs.Prelude.{ℤ, pos, ◌==◌, if◌then◌else◌, slice_get}
-use Rattle.std.specs.List.{AllByRecursion, list_any}
+use Rattle.std.specs.List.{AllByRecursion}
 use Rattle.std.specs.Int.RustNames.{unsigned_abs}
 use Rattle.std.proofs.lemmas.Int.{ints}
 use Rattle.std.proofs.lemmas.Bool.Decides.{nat_tests}
@@ -96,12 +96,18 @@ use Rattle.completeness.proofs.BlockNames.{LeafOf, IsTurnOf, IsForeign, IsNestTu
 use Rattle.completeness.proofs.TailSteps.{Line, Loop, Block, Pair, is_loop, line_steps, steps_of}
 use Rattle.completeness.proofs.TailTurns.{keeps_rest, Entry, let_of, entry_steps, Leaf, IsBegun, IsLimited, Kept, Right, IsLet, IsEntry, IsLimit, IsPair, IsBlock}
 use Rattle.completeness.proofs.TailTurns.{not_shifted}
+use Rattle.plan.specs.declared.stmt.Pick.TheVariants.{Min}
+use Rattle.sched.specs.declared.skeleton.Step.TheVariants.{Named}
+use Rattle.std.proofs.Common.{zero, suc}
+use Rattle.completeness.proofs.HeadSeats.{HeadLet, around_from}
+use Rattle.rules.specs.Bounding.Scopes.{most_symbols}
+use Rattle.soundness.specs.Obligations.{Binder}
 use Rattle.completeness.proofs.TailSkeletons.{IsTailNest, AreTails}
 use Rattle.completeness.proofs.TailDims.{end_of_all, all_of}
 use Rattle.bounds.specs.Spans.{numbers}
 use Rattle.plan.specs.declared.stmt.Places.TheVariants.{From}
 use Rattle.completeness.proofs.TailNames.{IsKeptBy, IsLetOf, IsPairLet, IsBlockLet, factor, owner, tops, owner_there, HasPlain, plain_grid, plain_loop, plain_block, plain_split}
-use Rattle.completeness.proofs.TailNames.{plain_pair, plain_shift}
+use Rattle.completeness.proofs.TailNames.{plain_pair, plain_shift, plain_head}
 use Rattle.completeness.proofs.Served.{roots}
 use Rattle.completeness.proofs.TailShapes as shape_of
 use Rattle.std.specs.Prelude.{take}
@@ -172,8 +178,7 @@ module _ (a : Algorithm) (sch : Schedule) (l : Lowered) (well : IsAlgorithm a) (
       (placed : (j : ℕ) (v : CodeClaim) → slice_get claims j ≡ Some v → slice_get items (first + j) ≡ Some v)
       (alone_here : (j : ℕ) (w : CodeClaim) → slice_get items j ≡ Some w → line < w.line → w.line < line + (lines (statement_of p.body) + 1) → In w claims)
       (laid : IsLaidBy g h.extents h.skeleton) (split_alone : AreSplitOnce g.placed.cuts) (keeps : KeepsInner g.placed.loops g.placed.cuts)
-      (long : AllByRecursion (λ c. is_too_short (loop_numbers g.subject.variables g.placed.cuts h.extents) c ≡ false) g.placed.cuts)
-      (ground : AllByRecursion (λ c. (is_shifted c && list_any (λ o. is_parallel o && same_name o.name c.outer) g.placed.loops) ≡ false) g.placed.cuts) where
+      (long : AllByRecursion (λ c. is_too_short (loop_numbers g.subject.variables g.placed.cuts h.extents) c ≡ false) g.placed.cuts) where
     abbrev pub k : SkeletonText
     k = h.skeleton
 
@@ -229,56 +234,56 @@ module _ (a : Algorithm) (sch : Schedule) (l : Lowered) (well : IsAlgorithm a) (
     place x = (dimension_of lay cuts x).places
 
     abbrev pub others : AreOthers cuts
-    others = shape_of.others a sch l well legal small kept all groups n first line g p claims needs at there h lined placed alone_here laid split_alone keeps long ground
+    others = shape_of.others a sch l well legal small kept all groups n first line g p claims needs at there h lined placed alone_here laid split_alone keeps long
 
     abbrev pub once : AreOnce cuts
-    once = shape_of.once a sch l well legal small kept all groups n first line g p claims needs at there h lined placed alone_here laid split_alone keeps long ground
+    once = shape_of.once a sch l well legal small kept all groups n first line g p claims needs at there h lined placed alone_here laid split_alone keeps long
 
     abbrev pub halves : (c : Split) → In c cuts → (x : List ℕ) → In x xs → (x ≡ c.outer → ⊥) × (x ≡ c.inner → ⊥)
-    halves = shape_of.halves a sch l well legal small kept all groups n first line g p claims needs at there h lined placed alone_here laid split_alone keeps long ground
+    halves = shape_of.halves a sch l well legal small kept all groups n first line g p claims needs at there h lined placed alone_here laid split_alone keeps long
 
     abbrev pub outers : (c d : Split) → In c cuts → In d cuts → c.outer ≡ d.outer → c ≡ d
-    outers = shape_of.outers a sch l well legal small kept all groups n first line g p claims needs at there h lined placed alone_here laid split_alone keeps long ground
+    outers = shape_of.outers a sch l well legal small kept all groups n first line g p claims needs at there h lined placed alone_here laid split_alone keeps long
 
     abbrev pub gone : (c : Split) → In c cuts → (o : NestLoop) → In o ls → c.whole ≡ o.name → ⊥
-    gone = shape_of.gone a sch l well legal small kept all groups n first line g p claims needs at there h lined placed alone_here laid split_alone keeps long ground
+    gone = shape_of.gone a sch l well legal small kept all groups n first line g p claims needs at there h lined placed alone_here laid split_alone keeps long
 
     abbrev pub wholes : (c : Split) → In c cuts → In c.whole xs
-    wholes = shape_of.wholes a sch l well legal small kept all groups n first line g p claims needs at there h lined placed alone_here laid split_alone keeps long ground
+    wholes = shape_of.wholes a sch l well legal small kept all groups n first line g p claims needs at there h lined placed alone_here laid split_alone keeps long
 
     abbrev pub fits : (c : Split) → In c cuts → CutFits rs c
-    fits = shape_of.fits a sch l well legal small kept all groups n first line g p claims needs at there h lined placed alone_here laid split_alone keeps long ground
+    fits = shape_of.fits a sch l well legal small kept all groups n first line g p claims needs at there h lined placed alone_here laid split_alone keeps long
 
     abbrev pub single : (y : List ℕ) → hits loop_name y ls ≤ 1
-    single = shape_of.single a sch l well legal small kept all groups n first line g p claims needs at there h lined placed alone_here laid split_alone keeps long ground
+    single = shape_of.single a sch l well legal small kept all groups n first line g p claims needs at there h lined placed alone_here laid split_alone keeps long
 
     abbrev pub inners : (c : Split) → In c cuts → form_named grid c.inner ≡ None
-    inners = shape_of.inners a sch l well legal small kept all groups n first line g p claims needs at there h lined placed alone_here laid split_alone keeps long ground
+    inners = shape_of.inners a sch l well legal small kept all groups n first line g p claims needs at there h lined placed alone_here laid split_alone keeps long
 
     abbrev pub leaf_of : (o : NestLoop) → In o ls → LeafOf xs ls cuts rs others once halves outers gone o.name
-    leaf_of = shape_of.leaf_of a sch l well legal small kept all groups n first line g p claims needs at there h lined placed alone_here laid split_alone keeps long ground
+    leaf_of = shape_of.leaf_of a sch l well legal small kept all groups n first line g p claims needs at there h lined placed alone_here laid split_alone keeps long
 
     abbrev pub shape : AreTails xs bs g.placed others once rs k
-    shape = shape_of.shape a sch l well legal small kept all groups n first line g p claims needs at there h lined placed alone_here laid split_alone keeps long ground
+    shape = shape_of.shape a sch l well legal small kept all groups n first line g p claims needs at there h lined placed alone_here laid split_alone keeps long
 
     abbrev pub NumbersFit : List ℕ → Type 0
-    NumbersFit = shape_of.NumbersFit a sch l well legal small kept all groups n first line g p claims needs at there h lined placed alone_here laid split_alone keeps long ground
+    NumbersFit = shape_of.NumbersFit a sch l well legal small kept all groups n first line g p claims needs at there h lined placed alone_here laid split_alone keeps long
 
     abbrev pub fit_of : (x : List ℕ) → In x xs → NumbersFit x
-    fit_of = shape_of.fit_of a sch l well legal small kept all groups n first line g p claims needs at there h lined placed alone_here laid split_alone keeps long ground
+    fit_of = shape_of.fit_of a sch l well legal small kept all groups n first line g p claims needs at there h lined placed alone_here laid split_alone keeps long
 
     abbrev pub sized : (c : Split) → In c cuts → IsSmall (num c.whole) × (0 < (num c.whole).count)
-    sized = shape_of.sized a sch l well legal small kept all groups n first line g p claims needs at there h lined placed alone_here laid split_alone keeps long ground
+    sized = shape_of.sized a sch l well legal small kept all groups n first line g p claims needs at there h lined placed alone_here laid split_alone keeps long
 
     abbrev pub shorts : AllByRecursion IsShort k.grid
-    shorts = shape_of.shorts a sch l well legal small kept all groups n first line g p claims needs at there h lined placed alone_here laid split_alone keeps long ground
+    shorts = shape_of.shorts a sch l well legal small kept all groups n first line g p claims needs at there h lined placed alone_here laid split_alone keeps long
 
     abbrev pub near_named : (y : List ℕ) → LeafOf xs ls cuts rs others once halves outers gone y → (unsigned_abs (low y) ≤ 2 ^ 36) × (unsigned_abs (last y) ≤ 2 ^ 36)
-    near_named = shape_of.near_named a sch l well legal small kept all groups n first line g p claims needs at there h lined placed alone_here laid split_alone keeps long ground
+    near_named = shape_of.near_named a sch l well legal small kept all groups n first line g p claims needs at there h lined placed alone_here laid split_alone keeps long
 
     abbrev pub loop_leaf : (o : NestLoop) → In o ls → (x : List ℕ) × (slice_get xs o.dimension ≡ Some x) × ((x ≡ o.name) ⊎ ((c : Split) × In c cuts × (c.whole ≡ x) × ((o.name ≡ c.outer) ⊎
         (o.name ≡ c.inner))))
-    loop_leaf = shape_of.loop_leaf a sch l well legal small kept all groups n first line g p claims needs at there h lined placed alone_here laid split_alone keeps long ground
+    loop_leaf = shape_of.loop_leaf a sch l well legal small kept all groups n first line g p claims needs at there h lined placed alone_here laid split_alone keeps long
 
     -- ---- a nest
 
@@ -332,7 +337,7 @@ module _ (a : Algorithm) (sch : Schedule) (l : Lowered) (well : IsAlgorithm a) (
       loop_at j e at loop = ap is_loop (line_at j e at) ∙ loop
 
       pub turns_of : (j : ℕ) (t : Turning) → slice_get us j ≡ Some t → IsNestTurn xs ls cuts rs others once halves outers gone grid t
-      turns_of j t e = shape_of.turns a sch l well legal small kept all groups n first line g p claims needs at there h lined placed alone_here laid split_alone keeps long ground b ds
+      turns_of j t e = shape_of.turns a sch l well legal small kept all groups n first line g p claims needs at there h lined placed alone_here laid split_alone keeps long b ds
           reduced distinct within ranged j t e
 
       -- an entry that is a loop is one of the nest's
@@ -457,13 +462,13 @@ module _ (a : Algorithm) (sch : Schedule) (l : Lowered) (well : IsAlgorithm a) (
 
       pub over_names : (y : List ℕ) (f : Form) → form_named grid y ≡ Some f → (s : ℕ) × (f ≡ counted_from (low y) s) × (s < m0) × ((o : NestLoop) × In o ls × (o.name ≡ y))
       over_names y f e =
-          let r = group.grids a sch l well legal small kept all groups n first line g p claims needs at there h lined placed alone_here laid split_alone keeps long ground y f e in
+          let r = group.grids a sch l well legal small kept all groups n first line g p claims needs at there h lined placed alone_here laid split_alone keeps long y f e in
           let less = r.2 in
           let least = q.low in
           (r.0, r.1, omega (arith, less, least), r.3)
 
       grid_symbol : (c : Split) → In c cuts → (f : Form) → form_named grid c.outer ≡ Some f → (s : ℕ) × (f ≡ counted_from (pos 0) s) × (s < length (piece_counts rs ls))
-      grid_symbol c m f e = group.outers_there a sch l well legal small kept all groups n first line g p claims needs at there h lined placed alone_here laid split_alone keeps long ground c m f e
+      grid_symbol c m f e = group.outers_there a sch l well legal small kept all groups n first line g p claims needs at there h lined placed alone_here laid split_alone keeps long c m f e
 
       -- what is left up to the last number of a split loop, over the symbol of the outer loop
       left_so : (c : Split) → In c cuts → (j : ℕ) (f : Form) (l : IsLimit cuts others once rs grid (length (piece_counts rs ls)) k.head m0 es j c f) → (s : ℕ) → l.outer ≡ counted_from (pos 0) s →
@@ -568,14 +573,29 @@ module _ (a : Algorithm) (sch : Schedule) (l : Lowered) (well : IsAlgorithm a) (
 
           of : (v : Bool) → is_loop (kinds (m0 + j)) ≡ v → (unsigned_abs t.low ≤ 2 ^ 36) × (unsigned_abs t.last ≤ 2 ^ 36)
           of true loop = (let r = turn_at j t at_j loop in shape_of.near a sch l well legal small kept all groups n first line g p claims needs at there h lined placed alone_here laid
-              split_alone keeps long ground b ds reduced distinct within ranged r.0 t r.1)
+              split_alone keeps long b ds reduced distinct within ranged r.0 t r.1)
           of false e =
               let r = (lets j t at_j e).0 in
               let ends = whole_near r.split r.among in
               (subst (λ (z : ℤ). unsigned_abs z ≤ 2 ^ 36) (sym r.from) ends.0, subst (λ (z : ℤ). unsigned_abs z ≤ 2 ^ 36) (sym r.to) ends.1)
 
-      pub few_grid : length k.grid ≤ m0
-      few_grid = (let is = ap length shape.grid in let least = q.low in omega (arith, is, least))
+      abbrev pub heads : List HeadLet
+      heads = (shape_of.head_lets a sch l well legal small kept all groups n first line g p claims needs at there h lined placed alone_here laid split_alone keeps long).lets
+
+      pub few_heads : length k.grid + length heads ≤ m0
+      few_heads = (let is = ap length shape.grid in let least = q.low in let many = (shape_of.head_lets a sch l well legal small kept all groups n first line g p claims needs at there h
+          lined placed alone_here laid split_alone keeps long).long in omega (arith, is, least, many))
+
+      pub short_heads : length k.grid + length heads ≤ most_symbols
+      short_heads =
+          let is = ap length shape.grid in
+          let pieces = group.few_pieces a sch l well legal small kept all groups n first line g p claims needs at there h lined placed alone_here laid split_alone keeps long in
+          let many = (shape_of.head_lets a sch l well legal small kept all groups n first line g p claims needs at there h lined placed alone_here laid split_alone keeps long).long in
+          let few = shape_of.few_head a sch l well legal small kept all groups n first line g p claims needs at there h lined placed alone_here laid split_alone keeps long in
+          omega (arith, is, pieces, many, few)
+
+      abbrev pub around : List Binder
+      around = around_from (length k.grid) heads (grid_binders k.grid)
 
       abbrev pub factor_at : ℕ → ℤ
       factor_at = factor xs ls cuts rs others once halves outers gone grid m0 ts kinds lim keep turns lets keeps_loops same_places over_names inners fits sized bounded
@@ -587,8 +607,8 @@ module _ (a : Algorithm) (sch : Schedule) (l : Lowered) (well : IsAlgorithm a) (
       owner_at = owner xs ls cuts rs others once halves outers gone grid m0 ts kinds lim keep turns lets keeps_loops same_places over_names inners fits sized bounded
 
       abbrev pub Plain : List ℕ → Form → Type 0
-      Plain x f = HasPlain xs ls cuts rs others once halves outers gone grid m0 ts kinds lim keep turns lets keeps_loops same_places over_names inners fits sized bounded R refl k.grid
-          few_grid shorts near (grid_spelled 0 k.grid) claim place x f
+      Plain x f = HasPlain xs ls cuts rs others once halves outers gone grid m0 ts kinds lim keep turns lets keeps_loops same_places over_names inners fits sized bounded R refl k.grid heads
+          few_heads short_heads shorts near (grid_spelled 0 k.grid) claim place x f
 
       abbrev pub RightHere : List ℕ → Form → Type 0
       RightHere y f = Right cuts others once rs grid (length (piece_counts rs ls)) head m0 es y f
@@ -597,7 +617,7 @@ module _ (a : Algorithm) (sch : Schedule) (l : Lowered) (well : IsAlgorithm a) (
       pub serial_at : (j : ℕ) (t : Turning) → slice_get ts j ≡ Some t → is_loop (kinds (m0 + j)) ≡ true → (y : List ℕ) → t.name ≡ y → ((e : Range) → In e ds → e.variable ≡ y → ⊥) →
           hits loop_name y (parallel_loops ls) ≡ 0
       serial_at j t at_j loop y name no_range = (let r = turn_at j t at_j loop in of (shape_of.part a sch l well legal small kept all groups n first line g p claims needs at there h lined
-          placed alone_here laid split_alone keeps long ground b ds reduced distinct within ranged r.0 t r.1))
+          placed alone_here laid split_alone keeps long b ds reduced distinct within ranged r.0 t r.1))
         where
           of : IsLoopTurn b rs ls ds ranged t ⊎ IsRangeTurn b rs ls ds ranged t → hits loop_name y (parallel_loops ls) ≡ 0
           of (inl (o, mo, serial, has, is)) =
@@ -615,22 +635,25 @@ module _ (a : Algorithm) (sch : Schedule) (l : Lowered) (well : IsAlgorithm a) (
         where
           of : RightHere x f → Plain x f
           of (inl (inl over)) =
-              let r = over_names x f over in
+              let r = group.grids a sch l well legal small kept all groups n first line g p claims needs at there h lined placed alone_here laid split_alone keeps long x f over in
+              let less = r.2 in
+              let least = q.low in
+              let is = ap length shape.grid in
               let named_so : form_named grid x ≡ Some (counted_from (low x) r.0) = over ∙ ap (λ (u : Form). Some u) r.1 in
-              let d = group.dim_grid a sch l well legal small kept all groups n first line g p claims needs at there h lined placed alone_here laid split_alone keeps long ground x r.0 named_so r.3 in
-              plain_grid xs ls cuts rs others once halves outers gone grid m0 ts kinds lim keep turns lets keeps_loops same_places over_names inners fits sized bounded R refl k.grid
-              few_grid shorts near (grid_spelled 0 k.grid) claim place x f over r.0 r.1 r.2 r.3 (near_named x (inl m)).0 d.0 d.1
+              let d = group.dim_grid a sch l well legal small kept all groups n first line g p claims needs at there h lined placed alone_here laid split_alone keeps long x r.0 named_so r.3 in
+              plain_grid xs ls cuts rs others once halves outers gone grid m0 ts kinds lim keep turns lets keeps_loops same_places over_names inners fits sized bounded R refl k.grid heads
+              few_heads short_heads shorts near (grid_spelled 0 k.grid) claim place x f over r.0 r.1 (omega (arith, less, least)) (omega (arith, less, is)) r.3 (near_named x (inl m)).0 d.0 d.1
           of (inl (inr (j, v, there_v, loop, name, is))) =
               let at_j = turning_at j v there_v in
               let looping = loop_at j v there_v loop in
               let o = turn_of xs ls cuts rs others once halves outers gone grid v.turning x m name (turns j v.turning at_j looping) in
               let none = serial_at j v.turning at_j looping x name (λ e me s. shape_of.range_apart a sch l well legal small kept all groups n first line g p claims needs at there h lined
-              placed alone_here laid split_alone keeps long ground b ds reduced distinct within ranged e me x m s) in
-              let d = group.dim_loop a sch l well legal small kept all groups n first line g p claims needs at there h lined placed alone_here laid split_alone keeps long ground x m none
+              placed alone_here laid split_alone keeps long b ds reduced distinct within ranged e me x m s) in
+              let d = group.dim_loop a sch l well legal small kept all groups n first line g p claims needs at there h lined placed alone_here laid split_alone keeps long x m none
               (o.loop, o.there, o.name ∙ name) in
               subst (Plain x) (sym is)
-              (plain_loop xs ls cuts rs others once halves outers gone grid m0 ts kinds lim keep turns lets keeps_loops same_places over_names inners fits sized bounded R refl k.grid
-              few_grid shorts near (grid_spelled 0 k.grid) claim place x m j v.turning at_j looping name d.0 d.1)
+              (plain_loop xs ls cuts rs others once halves outers gone grid m0 ts kinds lim keep turns lets keeps_loops same_places over_names inners fits sized bounded R refl k.grid heads
+              few_heads short_heads shorts near (grid_spelled 0 k.grid) claim place x m j v.turning at_j looping name d.0 d.1)
           of (inr u) = subst (λ (y : List ℕ). Plain y f) u.is (inner_of u.by_inner)
             where
               c : Split
@@ -668,14 +691,10 @@ module _ (a : Algorithm) (sch : Schedule) (l : Lowered) (well : IsAlgorithm a) (
                       ap (λ (p : ℕ). lim (m0 + p)) (sym place) ∙ limits_at l.place l.entry l.there ∙ l.limits ∙ ap (λ (g : Form). g ∷ []) left
 
                   outer_of : Leaf cuts others once rs grid (length (piece_counts rs ls)) head m0 es c.outer u.outer → Plain c.whole f
-                  outer_of (inl over) = kept_of u.kept
+                  outer_of (inl over) = begun_of u.begun
                     where
                       r : (s : ℕ) × (u.outer ≡ counted_from (pos 0) s) × (s < length (piece_counts rs ls))
                       r = grid_symbol c u.there u.outer over
-
-                      plain_c : is_shifted c ≡ false
-                      plain_c = group.plain a sch l well legal small kept all groups n first line g p claims needs at there h lined placed alone_here laid split_alone keeps long ground c
-                          u.there u.outer over
 
                       named_so : form_named grid c.outer ≡ Some (counted_from (pos 0) r.0)
                       named_so = over ∙ ap (λ (w : Form). Some w) r.1
@@ -686,27 +705,8 @@ module _ (a : Algorithm) (sch : Schedule) (l : Lowered) (well : IsAlgorithm a) (
                       inside : r.0 < length k.grid
                       inside = (let less = r.2 in let is = ap length shape.grid in omega (arith, less, is))
 
-                      start_so : u.start ≡ u.first
-                      start_so = by u.begun
-                        where
-                          by : IsBegun cuts others once rs grid (length (piece_counts rs ls)) head m0 es u.split u.first u.start → u.start ≡ u.first
-                          by (inl s) = s.1
-                          by (inr s) = absurd (not_both s.0 plain_c)
-
-                      begins : combined (number (low c.whole)) (pos c.factor) (counted_from (pos 0) r.0) ≡ Some u.start
-                      begins = ap (combined (number (low c.whole)) (pos c.factor)) (sym r.1) ∙ u.begins ∙ ap (λ (g : Form). Some g) (sym start_so)
-
                       differ : (r.0 == m0 + i) ≡ false
                       differ = (let less = below in grind (arith, nat_tests, less))
-
-                      made : (f' : Form) → f' ≡ u.form → (keeps_rest rs c ≡ true → lim (m0 + i) ≡ left_over (last c.whole) (low c.whole) (pos c.factor) r.0 ∷ []) → Plain c.whole f'
-                      made f' is limit =
-                          let form = pair_is (low c.whole) c.factor r.0 (fits c u.there).some (m0 + i) u.start u.form differ begins sum_so in
-                          let d = group.dim_block a sch l well legal small kept all groups n first line g p claims needs at there h lined placed alone_here laid split_alone keeps long
-                          ground c u.there r.0 named_so in
-                          plain_block xs ls cuts rs others once halves outers gone grid m0 ts kinds lim keep turns lets keeps_loops same_places over_names inners fits sized bounded R refl
-                          k.grid few_grid shorts near (grid_spelled 0 k.grid) claim place c u.there (wholes c u.there) fit.0 fit.1 i t at_i looping name plain_c r.0
-                          inside below named_so f' (is ∙ form.0) form.1 limit d.0 d.1
 
                       same_outer : (o : Form) → (form_named grid c.outer ≡ Some o)
                           ⊎ ((p : ℕ) × (w : Entry) × (slice_get es p ≡ Some w) × (is_loop w.line ≡ true) × (w.turning.name ≡ c.outer) × (o ≡ alone (m0 + p)) × (p < i)) → o ≡ counted_from (pos 0) r.0
@@ -720,14 +720,92 @@ module _ (a : Algorithm) (sch : Schedule) (l : Lowered) (well : IsAlgorithm a) (
                               let clash : Some u.outer ≡ None = sym over ∙ ap (form_named grid) (sym p_name) ∙ own in
                               cc clash
 
-                      kept_of : Kept cuts others once rs grid (length (piece_counts rs ls)) head m0 es u.split u.form f → Plain c.whole f
-                      kept_of (inl (free, is)) = made f is (λ rests. absurd (not_both rests free))
-                      kept_of (inr (inl l)) = made f l.is (λ rests. limit_at r.0 r.1 l same_outer (let less = below in omega (arith, less)))
-                      kept_of (inr (inr p)) =
-                          absurd (let own : form_named grid p.pair.outer.turning.name ≡ None = elim (turns p.pair.outer_at p.pair.outer.turning (turning_at p.pair.outer_at p.pair.outer
-                          p.pair.outer_there)
-                          (loop_at p.pair.outer_at p.pair.outer p.pair.outer_there p.pair.outer_loop)) [ inl x ↦ x.own | inr x ↦ x.own ] in
-                          let clash : Some u.outer ≡ None = sym over ∙ ap (form_named grid) (sym p.pair.outer_name) ∙ own in cc clash)
+                      plain_here : is_shifted c ≡ false → u.start ≡ u.first → Plain c.whole f
+                      plain_here plain_c start_so = kept_of u.kept
+                        where
+                          begins : combined (number (low c.whole)) (pos c.factor) (counted_from (pos 0) r.0) ≡ Some u.start
+                          begins = ap (combined (number (low c.whole)) (pos c.factor)) (sym r.1) ∙ u.begins ∙ ap (λ (g : Form). Some g) (sym start_so)
+
+                          made : (f' : Form) → f' ≡ u.form → (keeps_rest rs c ≡ true → lim (m0 + i) ≡ left_over (last c.whole) (low c.whole) (pos c.factor) r.0 ∷ []) → Plain c.whole f'
+                          made f' is limit =
+                              let form = pair_is (low c.whole) c.factor r.0 (fits c u.there).some (m0 + i) u.start u.form differ begins sum_so in
+                              let d = group.dim_block a sch l well legal small kept all groups n first line g p claims needs at there h lined placed alone_here laid split_alone keeps long c
+                              u.there plain_c r.0 named_so in
+                              plain_block xs ls cuts rs others once halves outers gone grid m0 ts kinds lim keep turns lets keeps_loops same_places over_names inners fits sized bounded R refl
+                              k.grid heads few_heads short_heads shorts near (grid_spelled 0 k.grid) claim place c u.there (wholes c u.there) fit.0 fit.1 i t at_i looping name plain_c r.0
+                              inside below named_so f' (is ∙ form.0) form.1 limit d.0 d.1
+
+                          kept_of : Kept cuts others once rs grid (length (piece_counts rs ls)) head m0 es u.split u.form f → Plain c.whole f
+                          kept_of (inl (free, is)) = made f is (λ rests. absurd (not_both rests free))
+                          kept_of (inr (inl l)) = made f l.is (λ rests. limit_at r.0 r.1 l same_outer (let less = below in omega (arith, less)))
+                          kept_of (inr (inr p)) =
+                              absurd (let own : form_named grid p.pair.outer.turning.name ≡ None = elim (turns p.pair.outer_at p.pair.outer.turning (turning_at p.pair.outer_at p.pair.outer
+                              p.pair.outer_there)
+                              (loop_at p.pair.outer_at p.pair.outer p.pair.outer_there p.pair.outer_loop)) [ inl x ↦ x.own | inr x ↦ x.own ] in
+                              let clash : Some u.outer ≡ None = sym over ∙ ap (form_named grid) (sym p.pair.outer_name) ∙ own in cc clash)
+
+                      -- the first number of a shifted block is a let over the grid
+                      head_here : is_shifted c ≡ true → (j : ℕ) → slice_get k.head j ≡ Some (Named (length (piece_counts rs ls) + j) Min (u.first ∷ number (room (num c.whole) c.factor) ∷ [])) →
+                          u.start ≡ alone (length (piece_counts rs ls) + j) → Plain c.whole f
+                      head_here shifted j head_at start_is' = kept_of u.kept
+                        where
+                          first_so : u.first ≡ one_of (low c.whole) (pos c.factor) r.0
+                          first_so = block_form c u.there r.0 u.first (ap (combined (number (low c.whole)) (pos c.factor)) (sym r.1) ∙ u.begins)
+
+                          head_so : slice_get k.head j ≡ Some (Named (length (piece_counts rs ls) + j) Min (one_of (low c.whole) (pos c.factor) r.0 ∷ number (room (num c.whole) c.factor) ∷ []))
+                          head_so = head_at ∙ ap (λ (q : Form). Some (Named (length (piece_counts rs ls) + j) Min (q ∷ number (room (num c.whole) c.factor) ∷ []))) first_so
+
+                          start_there : form_named k.starts c.whole ≡ Some (alone (length (piece_counts rs ls) + j))
+                          start_there = shape_of.head_start a sch l well legal small kept all groups n first line g p claims needs at there h lined placed alone_here laid split_alone keeps
+                              long c u.there r.0 named_so j (room (num c.whole) c.factor) head_so
+
+                          let_there : slice_get heads j ≡ Some (record { form = one_of (low c.whole) (pos c.factor) r.0; room = room (num c.whole) c.factor })
+                          let_there = (shape_of.head_lets a sch l well legal small kept all groups n first line g p claims needs at there h lined placed alone_here laid split_alone keeps
+                              long).there j (record { form = one_of (low c.whole) (pos c.factor) r.0; room = room (num c.whole) c.factor }) head_so
+
+                          count_is : length (piece_counts rs ls) ≡ length k.grid
+                          count_is = sym (ap length shape.grid)
+
+                          symbol_near : length (piece_counts rs ls) + j < m0
+                          symbol_near = (let inside_head = slice_less k.head j (Named (length (piece_counts rs ls) + j) Min (u.first ∷ number (room (num c.whole) c.factor) ∷ [])) head_at in
+                              let least = q.low in
+                              omega (arith, inside_head, least))
+                            where
+                              slice_less : (ss : List Step) (j : ℕ) (s : Step) → slice_get ss j ≡ Some s → j < length ss
+                              slice_less [] j s e = absurd (cc e)
+                              slice_less (y ∷ ss) zero s e = omega arith
+                              slice_less (y ∷ ss) (suc j) s e = (let rest = slice_less ss j s e in omega (arith, rest))
+
+                          apart : (length (piece_counts rs ls) + j == m0 + i) ≡ false
+                          apart = (let less = symbol_near in grind (arith, nat_tests, less))
+
+                          made : (f' : Form) → f' ≡ u.form → Plain c.whole f'
+                          made f' is =
+                              let begins = alone_made (length (piece_counts rs ls) + j) in
+                              let form = pair_is (pos 0) 1 (length (piece_counts rs ls) + j) (omega arith) (m0 + i) u.start u.form apart (begins ∙ ap (λ (g : Form). Some g) (sym start_is')) sum_so in
+                              let d = group.dim_head a sch l well legal small kept all groups n first line g p claims needs at there h lined placed alone_here laid split_alone keeps long c
+                              u.there shifted r.0 named_so (alone (length (piece_counts rs ls) + j)) start_there in
+                              plain_head xs ls cuts rs others once halves outers gone grid m0 ts kinds lim keep turns lets keeps_loops same_places over_names inners fits sized bounded R refl
+                              k.grid heads few_heads short_heads shorts near (grid_spelled 0 k.grid) claim place c u.there (wholes c u.there) fit.0 fit.1 i t at_i looping name shifted r.0
+                              inside below named_so (shape_of.counted_at a sch l well legal small kept all groups n first line g p claims needs at there h lined placed alone_here laid
+                              split_alone keeps long c.outer r.0 named_so) j let_there f' (is ∙ form.0 ∙ ap (λ (s : ℕ). pair (pos 0) (s + j) (pos 1) (m0 + i)) count_is) d.0 (d.1 ∙ ap (λ
+                              (s : ℕ). From (alone (s + j)) c.factor) count_is)
+
+                          kept_of : Kept cuts others once rs grid (length (piece_counts rs ls)) head m0 es u.split u.form f → Plain c.whole f
+                          kept_of (inl (free, is)) = made f is
+                          kept_of (inr (inl l)) = absurd (not_both shifted (not_shifted rs c l.keeps))
+                          kept_of (inr (inr l)) = absurd (not_both shifted (not_shifted rs c l.keeps))
+
+                      begun_of : IsBegun cuts others once rs grid (length (piece_counts rs ls)) head m0 es u.split u.first u.start → Plain c.whole f
+                      begun_of (inl (plain_c, start_so)) = plain_here plain_c start_so
+                      begun_of (inr (shifted, s, inl (j, head_at, s_is), start_is')) = head_here shifted j head_at (start_is' ∙ ap alone s_is)
+                      begun_of (inr (shifted, s, inr (b_at, let_there, s_is), start_is')) =
+                          let block : Entry = record { turning = let_of rs u.split; line = Block u.first (room (num u.split.whole) u.split.factor); limits = [] } in
+                          let r' = (lets b_at (let_of rs u.split) (turning_at b_at block let_there) (ap is_loop (line_at b_at block let_there))).0 in
+                          let same : r'.split ≡ c = by_whole cuts others r'.split c r'.among u.there (sym r'.name) in
+                          let own : form_named grid r'.outer.name ≡ None = elim (turns r'.outer_at r'.outer r'.outer_there r'.outer_loop) [ inl x ↦ x.own | inr x ↦ x.own ] in
+                          let clash : Some u.outer ≡ None = sym over ∙ ap (λ (d : Split). form_named grid d.outer) (sym same) ∙ ap (form_named grid) (sym r'.outer_name) ∙ own in
+                          absurd (cc clash)
                   outer_of (inr (o, w, there_o, loop_o, outer_name, outer_is)) = begun_of u.begun
                     where
                       at_o : slice_get ts o ≡ Some w.turning
@@ -738,7 +816,7 @@ module _ (a : Algorithm) (sch : Schedule) (l : Lowered) (well : IsAlgorithm a) (
 
                       none : hits loop_name c.outer (parallel_loops ls) ≡ 0
                       none = serial_at o w.turning at_o turning_o c.outer outer_name (λ e me s. shape_of.range_half a sch l well legal small kept all groups n first line g p claims needs at
-                          there h lined placed alone_here laid split_alone keeps long ground b ds reduced distinct within ranged e me c u.there (inl s))
+                          there h lined placed alone_here laid split_alone keeps long b ds reduced distinct within ranged e me c u.there (inl s))
 
                       differ : (m0 + o == m0 + i) ≡ false
                       differ = by (m0 + o == m0 + i) refl
@@ -767,8 +845,7 @@ module _ (a : Algorithm) (sch : Schedule) (l : Lowered) (well : IsAlgorithm a) (
 
                       dims_here : (claim c.whole ≡ numbers (low c.whole) (end_of_all rs c (fits c u.there) (fit_of c.whole (wholes c u.there)).0 (fit_of c.whole (wholes c u.there)).1))
                           × (place c.whole ≡ From (number (low c.whole)) (all_of rs c (fits c u.there) (fit_of c.whole (wholes c u.there)).0 (fit_of c.whole (wholes c u.there)).1))
-                      dims_here = group.dim_split a sch l well legal small kept all groups n first line g p claims needs at there h lined placed alone_here laid split_alone keeps long
-                          ground c u.there none
+                      dims_here = group.dim_split a sch l well legal small kept all groups n first line g p claims needs at there h lined placed alone_here laid split_alone keeps long c u.there none
 
                       begun_of : IsBegun cuts others once rs grid (length (piece_counts rs ls)) head m0 es u.split u.first u.start → Plain c.whole f
                       begun_of (inl (plain_c, start_is')) = kept_of u.kept
@@ -782,7 +859,7 @@ module _ (a : Algorithm) (sch : Schedule) (l : Lowered) (well : IsAlgorithm a) (
                               Plain c.whole f'
                           made f' is limit =
                               plain_split xs ls cuts rs others once halves outers gone grid m0 ts kinds lim keep turns lets keeps_loops same_places over_names inners fits sized bounded R
-                              refl k.grid few_grid shorts near (grid_spelled 0 k.grid) claim place c u.there (wholes c u.there) fit.0 fit.1 i t at_i looping name o w.turning
+                              refl k.grid heads few_heads short_heads shorts near (grid_spelled 0 k.grid) claim place c u.there (wholes c u.there) fit.0 fit.1 i t at_i looping name o w.turning
                               at_o turning_o outer_name plain_c f' (is ∙ form.0) form.1 limit dims_here.0 dims_here.1
 
                           kept_of : Kept cuts others once rs grid (length (piece_counts rs ls)) head m0 es u.split u.form f → Plain c.whole f
@@ -801,7 +878,7 @@ module _ (a : Algorithm) (sch : Schedule) (l : Lowered) (well : IsAlgorithm a) (
                               let less = p.pair.before in
                               subst (Plain c.whole) (sym p.is)
                               (plain_pair xs ls cuts rs others once halves outers gone grid m0 ts kinds lim keep turns lets keeps_loops same_places over_names inners fits sized bounded R
-                              refl k.grid few_grid shorts near (grid_spelled 0 k.grid) claim place c u.there (wholes c u.there) fit.0 fit.1 i t at_i looping name o w.turning
+                              refl k.grid heads few_heads short_heads shorts near (grid_spelled 0 k.grid) claim place c u.there (wholes c u.there) fit.0 fit.1 i t at_i looping name o w.turning
                               at_o turning_o outer_name p.keeps (omega (arith, outer_place, inner_place, less)) (p.pair.outer_at + 1) (let_of rs u.split) (turning_at (p.pair.outer_at + 1) (record {
                                 turning = let_of rs u.split;
                                 line = Pair u.form (last_number (num u.split.whole));
@@ -812,8 +889,15 @@ module _ (a : Algorithm) (sch : Schedule) (l : Lowered) (well : IsAlgorithm a) (
                                 limits = [];
                               }) p.there ∙ ap (λ (g : Form). Pair g (last c.whole)) form.0) form.1 dims_here.0 dims_here.1)
                       begun_of (inr (shifted, s, inl (j, head_at, s_is), start_is')) =
-                          (let none_there : slice_get [] j ≡ Some _ = ap (λ (ss : List Step). slice_get ss j) (sym (shape_of.no_head a sch l well legal small kept all groups n first line g
-                          p claims needs at there h lined placed alone_here laid split_alone keeps long ground)) ∙ head_at in absurd (cc none_there))
+                          let r' = shape_of.head_there a sch l well legal small kept all groups n first line g p claims needs at there h lined placed alone_here laid split_alone keeps long
+                          j (Named (length (piece_counts rs ls) + j) Min (u.first ∷ number (room (num c.whole) c.factor) ∷ [])) head_at in
+                          let first_form = block_form c u.there (m0 + o) u.first first_so in
+                          let symbols : m0 + o ≡ r'.symbol = ap (λ (f' : Form). shape_of.symbol_of a sch l well legal small kept all groups n first line g p claims needs at there h lined
+                          placed alone_here laid split_alone keeps long f') (sym first_form) ∙ ap (λ (q : Step). shape_of.step_symbol a sch l well legal small kept all groups n first
+                          line g p claims needs at there h lined placed alone_here laid split_alone keeps long q) r'.is in
+                          let less = r'.less in
+                          let least = q.low in
+                          absurd (omega (arith, symbols, less, least))
                       begun_of (inr (shifted, s, inr (b_at, let_there, s_is), start_is')) = kept_of u.kept
                         where
                           block : Entry
@@ -843,9 +927,9 @@ module _ (a : Algorithm) (sch : Schedule) (l : Lowered) (well : IsAlgorithm a) (
                               let start_so : u.start ≡ alone (m0 + b_at) = start_is' ∙ ap alone s_is in
                               let form = pair_is (pos 0) 1 (m0 + b_at) (omega arith) (m0 + i) u.start u.form apart (begins ∙ ap (λ (g : Form). Some g) (sym start_so)) sum_so in
                               plain_shift xs ls cuts rs others once halves outers gone grid m0 ts kinds lim keep turns lets keeps_loops same_places over_names inners fits sized bounded R
-                              refl k.grid few_grid shorts near (grid_spelled 0 k.grid) claim place c u.there (wholes c u.there) fit.0 fit.1 i t at_i looping name o w.turning
+                              refl k.grid heads few_heads short_heads shorts near (grid_spelled 0 k.grid) claim place c u.there (wholes c u.there) fit.0 fit.1 i t at_i looping name o w.turning
                               at_o turning_o outer_name shifted (group.enough a sch l well legal small kept all groups n first line g p claims needs at there h lined placed alone_here laid
-                              split_alone keeps long ground c u.there shifted) b_at (let_of rs u.split) (turning_at b_at block let_there) let_so refl outer_before
+                              split_alone keeps long c u.there shifted) b_at (let_of rs u.split) (turning_at b_at block let_there) let_so refl outer_before
                               (line_at b_at block let_there ∙ ap (λ (g : Form). Block g (room (num u.split.whole) u.split.factor)) (block_form c u.there (m0 + o) u.first first_so)) f' (is ∙
                               form.0) dims_here.0 dims_here.1
 
@@ -946,7 +1030,7 @@ module _ (a : Algorithm) (sch : Schedule) (l : Lowered) (well : IsAlgorithm a) (
       sums (y ∷ ys) sub = ((found_kept y (sub y (inl refl))).plain.sum, sums ys (λ x m. sub x (inr m)))
 
       pub claimed_all : (ys : List (List ℕ)) (sub : (x : List ℕ) → In x ys → In x kept_names) →
-          Each factor_at m0 ts owner_at kinds lim tops_at keep (IsClaimed factor_at m0 ts owner_at kinds lim tops_at keep R (grid_binders k.grid) claim) ys (sums ys sub)
+          Each factor_at m0 ts owner_at kinds lim tops_at keep (IsClaimed factor_at m0 ts owner_at kinds lim tops_at keep R around claim) ys (sums ys sub)
       claimed_all [] sub = tt
       claimed_all (y ∷ ys) sub = ((found_kept y (sub y (inl refl))).plain.claimed, claimed_all ys (λ x m. sub x (inr m)))
 
@@ -1023,7 +1107,7 @@ module _ (a : Algorithm) (sch : Schedule) (l : Lowered) (well : IsAlgorithm a) (
           of : (f : Form) → form_named q.known e.variable ≡ Some f → RightHere e.variable f →
               (j : ℕ) × (found_at ts e.variable ≡ Some j) × (form_named q.known e.variable ≡ Some (alone (m0 + j)))
           of f is (inl (inl over)) = (let clash : Some f ≡ None = sym over ∙ shape_of.range_own a sch l well legal small kept all groups n first line g p claims needs at there h lined
-              placed alone_here laid split_alone keeps long ground b ds reduced distinct within ranged e m in absurd (cc clash))
+              placed alone_here laid split_alone keeps long b ds reduced distinct within ranged e m in absurd (cc clash))
           of f is (inl (inr (j, v, at_j, loop, name, alone_is))) =
               let t_at = turning_at j v at_j in
               let some : 1 ≤ hits turn_name e.variable ts = subst (λ (y : List ℕ). 1 ≤ hits turn_name y ts) name (hits_some turn_name v.turning ts (at_in ts j v.turning t_at)) in
@@ -1031,7 +1115,7 @@ module _ (a : Algorithm) (sch : Schedule) (l : Lowered) (well : IsAlgorithm a) (
               let place = found_there ts e.variable r.0 j v.turning (turns_alone e.variable) r.1 t_at (ap (λ (y : List ℕ). same_name y e.variable) name ∙ name_refl e.variable) in
               (j, r.1 ∙ ap (λ (o : ℕ). Some o) place, is ∙ ap (λ (u : Form). Some u) alone_is)
           of f is (inr u) = absurd (shape_of.range_apart a sch l well legal small kept all groups n first line g p claims needs at there h lined placed alone_here laid split_alone keeps
-              long ground b ds reduced distinct within ranged e m u.split.whole (wholes u.split u.there) (sym u.is))
+              long b ds reduced distinct within ranged e m u.split.whole (wholes u.split u.there) (sym u.is))
 
       pub reads_over : (ms : Loads) (more : List Range) → ((e : Range) → In e more → In e ds) → (names : List (List ℕ)) (lefts : List (Option Term)) (cs : List Coordinate) →
           AreCoordinates ms names (ranges_at (map range_turning more) q.known) lefts cs → ReadsIf m0 ts cs (map range_name more)
@@ -1052,7 +1136,7 @@ module _ (a : Algorithm) (sch : Schedule) (l : Lowered) (well : IsAlgorithm a) (
       pub loops_once : ((j : ℕ) (t : Turning) → slice_get ts j ≡ Some t → is_loop (kinds (m0 + j)) ≡ true → (i : ℕ) → IsRangeTurn b rs ls ds ranged t → keep (m0 + j) ≡ false) → (j : ℕ) (t : Turning) →
           slice_get ts j ≡ Some t → keep (m0 + j) ≡ true → is_loop (kinds (m0 + j)) ≡ true → hits itself (owner_at j) kept_names ≡ 1
       loops_once out j t at_j in_nest loop = (let r = turn_at j t at_j loop in of (shape_of.part a sch l well legal small kept all groups n first line g p claims needs at there h lined
-          placed alone_here laid split_alone keeps long ground b ds reduced distinct within ranged r.0 t r.1))
+          placed alone_here laid split_alone keeps long b ds reduced distinct within ranged r.0 t r.1))
         where
           of : IsLoopTurn b rs ls ds ranged t ⊎ IsRangeTurn b rs ls ds ranged t → hits itself (owner_at j) kept_names ≡ 1
           of (inr r) = absurd (not_both in_nest (out j t at_j loop 0 r))
@@ -1062,25 +1146,25 @@ module _ (a : Algorithm) (sch : Schedule) (l : Lowered) (well : IsAlgorithm a) (
               owner_there xs ls cuts rs others once halves outers gone grid m0 ts kinds lim keep turns lets keeps_loops same_places over_names inners fits sized bounded j t at_j ∙ ap (λ (u
               : Turning). old.owner_named xs ls cuts rs others once halves outers gone u.name) is ∙ owner_is o mo in
               ap (λ (y : List ℕ). hits itself y kept_names) owner_so ∙ kept_once b xs o.dimension v.0 v.1 has (group.names_apart a sch l well legal small kept all groups n first line g p
-              claims needs at there h lined placed alone_here laid split_alone keeps long ground v.0)
+              claims needs at there h lined placed alone_here laid split_alone keeps long v.0)
 
       pub lets_once : (j : ℕ) (t : Turning) → slice_get ts j ≡ Some t → is_loop (kinds (m0 + j)) ≡ false → hits itself t.name kept_names ≡ 1
       lets_once j t at_j e =
           let r = (lets j t at_j e).0 in
           let u = turn_at r.outer_at r.outer r.outer_there r.outer_loop in
-          of r (shape_of.part a sch l well legal small kept all groups n first line g p claims needs at there h lined placed alone_here laid split_alone keeps long ground b ds reduced
+          of r (shape_of.part a sch l well legal small kept all groups n first line g p claims needs at there h lined placed alone_here laid split_alone keeps long b ds reduced
           distinct within ranged u.0 r.outer u.1)
         where
           of : (r : IsLetOf xs ls cuts rs others once halves outers gone m0 ts kinds j t) → IsLoopTurn b rs ls ds ranged r.outer ⊎ IsRangeTurn b rs ls ds ranged r.outer → hits itself t.name
               kept_names ≡ 1
           of r (inr (d', m, is)) =
-              absurd (shape_of.range_half a sch l well legal small kept all groups n first line g p claims needs at there h lined placed alone_here laid split_alone keeps long ground b ds
+              absurd (shape_of.range_half a sch l well legal small kept all groups n first line g p claims needs at there h lined placed alone_here laid split_alone keeps long b ds
               reduced distinct within ranged d' m r.split r.among (inl (ap (λ (v : Turning). v.name) (sym is) ∙ r.outer_name)))
           of r (inl (o, mo, serial, has, is)) =
               let v = loop_leaf o mo in
               let whole : v.0 ≡ r.split.whole = half_variable o mo r.split r.among (inl (ap (λ (u : Turning). u.name) (sym is) ∙ r.outer_name)) in
               ap (λ (y : List ℕ). hits itself y kept_names) (r.name ∙ sym whole) ∙ kept_once b xs o.dimension v.0 v.1 has (group.names_apart a sch l well legal small kept all groups n first
-              line g p claims needs at there h lined placed alone_here laid split_alone keeps long ground v.0)
+              line g p claims needs at there h lined placed alone_here laid split_alone keeps long v.0)
 
       pub fit_lines : ((j : ℕ) (t : Turning) → slice_get ts j ≡ Some t → is_loop (kinds (m0 + j)) ≡ true → (i : ℕ) → IsRangeTurn b rs ls ds ranged t → keep (m0 + j) ≡ false) →
           LinesFit factor_at m0 ts owner_at kinds lim tops_at keep kept_names

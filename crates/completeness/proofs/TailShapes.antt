@@ -1,8 +1,8 @@
 -- The loops of each definition's nest, and that the skeleton's nests are of these loops, of lets and of guards.
-use Rattle.std.proofs.Common.{◌≡◌, ℕ, zero, suc, ◌+◌, ◌<◌, ◌≤◌, ◌^◌, Bool, true, false, ◌&&◌, List, [], ◌∷◌, ◌++◌, length, map}
+use Rattle.std.proofs.Common.{◌≡◌, ℕ, zero, suc, ◌+◌, ◌<◌, ◌≤◌, ◌^◌, Bool, true, false, List, [], ◌∷◌, ◌++◌, length, map}
 use Rattle.std.proofs.Common.{Option, Some, None, refl, sym, ap, ◌∙◌, subst, inl, inr, ◌⊎◌, arith}
 use Rattle.std.specs.Prelude.{ℤ, slice_get}
-use Rattle.std.specs.List.{AllByRecursion, list_any}
+use Rattle.std.specs.List.{AllByRecursion}
 use Rattle.std.specs.Int.RustNames.{unsigned_abs}
 use Rattle.std.proofs.lemmas.Int.{ints}
 use Rattle.lin.specs.declared.span.Span1.{Span1}
@@ -53,7 +53,7 @@ use Rattle.completeness.specs.Parted.{KeepsInner}
 use Rattle.completeness.proofs.Halves.{AreOthers}
 use Rattle.completeness.proofs.Lanes.{AreOnce}
 use Rattle.completeness.proofs.PlainTurns.{hits, hits_once, itself, turn_name, one_if, hits_some}
-use Rattle.completeness.proofs.PureNests.{all_in, loop_name}
+use Rattle.completeness.proofs.PureNests.{all_slices, all_in, loop_name}
 use Rattle.completeness.proofs.UpdateTurns.{hits_fewer}
 use Rattle.completeness.proofs.GridTurns.{grid_none}
 use Rattle.completeness.proofs.GridCounts.{IsShort}
@@ -77,7 +77,27 @@ use Rattle.sched.specs.Skeleton.{kind_of}
 use Rattle.sched.specs.Numbers.{is_too_short}
 use Rattle.completeness.proofs.Halves.{IsInner, lanes_inner}
 use Rattle.completeness.proofs.BlockNames.{LeafOf, IsTurnOf, IsForeign, IsNestTurn}
-use Rattle.completeness.proofs.TailSkeletons.{IsHead, AreNamed, AreTails, skeleton_tails}
+use Rattle.std.proofs.Common.{Option, None}
+use Rattle.std.specs.Prelude.{pos, if◌then◌else◌, find}
+use Rattle.std.specs.Option.{option_map}
+use Rattle.lin.specs.declared.form.Multiple.{Multiple}
+use Rattle.lin.specs.Forms.{Form, number, combined}
+use Rattle.lin.proofs.Limits.{combined-means}
+use Rattle.plan.specs.declared.stmt.Pick.TheVariants.{Min}
+use Rattle.sched.specs.declared.skeleton.Step.{Step}
+use Rattle.sched.specs.declared.skeleton.Step.TheVariants.{Named}
+use Rattle.sched.specs.Standing.{counted_from, alone, room}
+use Rattle.completeness.proofs.Searched.{one_of}
+use Rattle.completeness.proofs.BlockSums.{start_is}
+use Rattle.completeness.proofs.RisingSteps.{binders, few_steps}
+use Rattle.headline.proofs.Lists.{at_map}
+use Rattle.sched.specs.Numbers.{or_one, grid_counts}
+use Rattle.soundness.specs.Binders.View.{grid_binders}
+use Rattle.soundness.specs.Obligations.{Binder}
+use Rattle.completeness.proofs.NestWalk.{lets_around}
+use Rattle.completeness.proofs.HeadSeats.{HeadLet, HeadIs, head_is, around_from}
+use Rattle.completeness.proofs.SplitTests.{IsBelow}
+use Rattle.completeness.proofs.TailSkeletons.{AreNamed, AreTails, skeleton_tails}
 use Rattle.completeness.proofs.Served.{roots}
 
 pub hits_absent : {A : Type 0} (f : A → List ℕ) (y : List ℕ) (xs : List A) → ((x : A) → In x xs → f x ≡ y → ⊥) → hits f y xs ≡ 0
@@ -133,8 +153,7 @@ module _ (a : Algorithm) (sch : Schedule) (l : Lowered) (well : IsAlgorithm a) (
       (placed : (j : ℕ) (v : CodeClaim) → slice_get claims j ≡ Some v → slice_get items (first + j) ≡ Some v)
       (alone_here : (j : ℕ) (w : CodeClaim) → slice_get items j ≡ Some w → line < w.line → w.line < line + (lines (statement_of p.body) + 1) → In w claims)
       (laid : IsLaidBy g h.extents h.skeleton) (split_alone : AreSplitOnce g.placed.cuts) (keeps : KeepsInner g.placed.loops g.placed.cuts)
-      (long : AllByRecursion (λ c. is_too_short (loop_numbers g.subject.variables g.placed.cuts h.extents) c ≡ false) g.placed.cuts)
-      (ground : AllByRecursion (λ c. (is_shifted c && list_any (λ o. is_parallel o && same_name o.name c.outer) g.placed.loops) ≡ false) g.placed.cuts) where
+      (long : AllByRecursion (λ c. is_too_short (loop_numbers g.subject.variables g.placed.cuts h.extents) c ≡ false) g.placed.cuts) where
     abbrev pub k : SkeletonText
     k = h.skeleton
 
@@ -192,49 +211,49 @@ module _ (a : Algorithm) (sch : Schedule) (l : Lowered) (well : IsAlgorithm a) (
     -- ---- what is so of the function
 
     abbrev pub others : AreOthers cuts
-    others = group.others a sch l well legal small kept all groups n first line g p claims needs at there h lined placed alone_here laid split_alone keeps long ground
+    others = group.others a sch l well legal small kept all groups n first line g p claims needs at there h lined placed alone_here laid split_alone keeps long
 
     abbrev pub once : AreOnce cuts
-    once = group.once a sch l well legal small kept all groups n first line g p claims needs at there h lined placed alone_here laid split_alone keeps long ground
+    once = group.once a sch l well legal small kept all groups n first line g p claims needs at there h lined placed alone_here laid split_alone keeps long
 
     abbrev pub halves : (c : Split) → In c cuts → (x : List ℕ) → In x xs → (x ≡ c.outer → ⊥) × (x ≡ c.inner → ⊥)
-    halves = group.halves a sch l well legal small kept all groups n first line g p claims needs at there h lined placed alone_here laid split_alone keeps long ground
+    halves = group.halves a sch l well legal small kept all groups n first line g p claims needs at there h lined placed alone_here laid split_alone keeps long
 
     abbrev pub outers : (c d : Split) → In c cuts → In d cuts → c.outer ≡ d.outer → c ≡ d
-    outers = group.outers a sch l well legal small kept all groups n first line g p claims needs at there h lined placed alone_here laid split_alone keeps long ground
+    outers = group.outers a sch l well legal small kept all groups n first line g p claims needs at there h lined placed alone_here laid split_alone keeps long
 
     abbrev pub gone : (c : Split) → In c cuts → (o : NestLoop) → In o ls → c.whole ≡ o.name → ⊥
-    gone = group.gone a sch l well legal small kept all groups n first line g p claims needs at there h lined placed alone_here laid split_alone keeps long ground
+    gone = group.gone a sch l well legal small kept all groups n first line g p claims needs at there h lined placed alone_here laid split_alone keeps long
 
     pub wholes : (c : Split) → In c cuts → In c.whole xs
-    wholes = group.wholes a sch l well legal small kept all groups n first line g p claims needs at there h lined placed alone_here laid split_alone keeps long ground
+    wholes = group.wholes a sch l well legal small kept all groups n first line g p claims needs at there h lined placed alone_here laid split_alone keeps long
 
     abbrev pub fits : (c : Split) → In c cuts → CutFits rs c
-    fits = group.fits a sch l well legal small kept all groups n first line g p claims needs at there h lined placed alone_here laid split_alone keeps long ground
+    fits = group.fits a sch l well legal small kept all groups n first line g p claims needs at there h lined placed alone_here laid split_alone keeps long
 
     pub single : (y : List ℕ) → hits loop_name y ls ≤ 1
-    single = group.single a sch l well legal small kept all groups n first line g p claims needs at there h lined placed alone_here laid split_alone keeps long ground
+    single = group.single a sch l well legal small kept all groups n first line g p claims needs at there h lined placed alone_here laid split_alone keeps long
 
     abbrev pub inners : (c : Split) → In c cuts → form_named grid c.inner ≡ None
-    inners = group.inners a sch l well legal small kept all groups n first line g p claims needs at there h lined placed alone_here laid split_alone keeps long ground
+    inners = group.inners a sch l well legal small kept all groups n first line g p claims needs at there h lined placed alone_here laid split_alone keeps long
 
     pub leaf_of : (o : NestLoop) → In o ls → LeafOf xs ls cuts rs others once halves outers gone o.name
-    leaf_of = group.leaf_of a sch l well legal small kept all groups n first line g p claims needs at there h lined placed alone_here laid split_alone keeps long ground
+    leaf_of = group.leaf_of a sch l well legal small kept all groups n first line g p claims needs at there h lined placed alone_here laid split_alone keeps long
 
     abbrev pub NumbersFit : List ℕ → Type 0
     NumbersFit x = IsSmall (num x) × (0 < (num x).count)
 
     pub fit_of : (x : List ℕ) → In x xs → NumbersFit x
-    fit_of = group.fit_of a sch l well legal small kept all groups n first line g p claims needs at there h lined placed alone_here laid split_alone keeps long ground
+    fit_of = group.fit_of a sch l well legal small kept all groups n first line g p claims needs at there h lined placed alone_here laid split_alone keeps long
 
     abbrev pub sized : (c : Split) → In c cuts → IsSmall (num c.whole) × (0 < (num c.whole).count)
-    sized = group.sized a sch l well legal small kept all groups n first line g p claims needs at there h lined placed alone_here laid split_alone keeps long ground
+    sized = group.sized a sch l well legal small kept all groups n first line g p claims needs at there h lined placed alone_here laid split_alone keeps long
 
     pub shorts : AllByRecursion IsShort k.grid
-    shorts = group.shorts a sch l well legal small kept all groups n first line g p claims needs at there h lined placed alone_here laid split_alone keeps long ground
+    shorts = group.shorts a sch l well legal small kept all groups n first line g p claims needs at there h lined placed alone_here laid split_alone keeps long
 
     pub near_named : (y : List ℕ) → LeafOf xs ls cuts rs others once halves outers gone y → (unsigned_abs (low y) ≤ 2 ^ 36) × (unsigned_abs (last y) ≤ 2 ^ 36)
-    near_named = group.near_named a sch l well legal small kept all groups n first line g p claims needs at there h lined placed alone_here laid split_alone keeps long ground
+    near_named = group.near_named a sch l well legal small kept all groups n first line g p claims needs at there h lined placed alone_here laid split_alone keeps long
 
     -- the loop's variable, by its dimension
     pub loop_leaf : (o : NestLoop) → In o ls → (x : List ℕ) × (slice_get xs o.dimension ≡ Some x) × ((x ≡ o.name) ⊎ ((c : Split) × In c cuts × (c.whole ≡ x) × ((o.name ≡ c.outer) ⊎ (o.name
@@ -277,7 +296,7 @@ module _ (a : Algorithm) (sch : Schedule) (l : Lowered) (well : IsAlgorithm a) (
       range_half e m c mc s =
           let used = among_end xs g.subject.reductions e.variable (names_in g.subject.reductions e.variable (reduced e m)) in
           let new = made_new cuts xs (xs ++ g.subject.reductions)
-          (group.made_so a sch l well legal small kept all groups n first line g p claims needs at there h lined placed alone_here laid split_alone keeps long ground) e.variable used c mc in
+          (group.made_so a sch l well legal small kept all groups n first line g p claims needs at there h lined placed alone_here laid split_alone keeps long) e.variable used c mc in
           elim s [ inl r ↦ new.0 r | inr r ↦ new.1 r ]
 
       pub range_loop : (e : Range) → In e ds → (o : NestLoop) → In o ls → o.name ≡ e.variable → ⊥
@@ -383,7 +402,7 @@ module _ (a : Algorithm) (sch : Schedule) (l : Lowered) (well : IsAlgorithm a) (
           of (inl (o, mo, serial, has, is)) =
               let kind : kind_of o.mark ≡ Vector = sym (ap (λ (u : Turning). u.kind) is) ∙ v in
               subst (IsInner cuts) (sym (ap (λ (u : Turning). u.name) is)) (lanes_inner g.placed (group.is_named a sch l well legal small kept all groups n first line g p claims needs at
-              there h lined placed alone_here laid split_alone keeps long ground) o mo (ap (λ (m : Option Mark). elim m [ Some mark.Vectorized ↦ true | _ ↦ false ]) (marked o.mark kind)))
+              there h lined placed alone_here laid split_alone keeps long) o mo (ap (λ (m : Option Mark). elim m [ Some mark.Vectorized ↦ true | _ ↦ false ]) (marked o.mark kind)))
           of (inr (d, m, is)) = (let clash : Serial ≡ Vector = sym (ap (λ (u : Turning). u.kind) is) ∙ v in absurd (cc clash))
 
       pub named_here : AreNamed cuts grid ts
@@ -403,9 +422,9 @@ module _ (a : Algorithm) (sch : Schedule) (l : Lowered) (well : IsAlgorithm a) (
     -- so it is of all
     named_all : (d : ℕ) (b : BodyText) → slice_get bs d ≡ Some b → AreNamed cuts grid (nest_turns b rs ls)
     named_all zero b e =
-        let none : b.ranges ≡ [] = group.bare_ranges a sch l well legal small kept all groups n first line g p claims needs at there h lined placed alone_here laid split_alone keeps long ground b e in
+        let none : b.ranges ≡ [] = group.bare_ranges a sch l well legal small kept all groups n first line g p claims needs at there h lined placed alone_here laid split_alone keeps long b e in
         named_here b [] (λ e m. absurd m) (subst AreDistinct (no_more xs) (distinct_of xs (group.names_apart a sch l well legal small kept all groups n first line g p claims needs at there
-        h lined placed alone_here laid split_alone keeps long ground))) tt none
+        h lined placed alone_here laid split_alone keeps long))) tt none
       where
         no_more : (ys : List (List ℕ)) → ys ≡ ys ++ []
         no_more [] = refl
@@ -419,22 +438,166 @@ module _ (a : Algorithm) (sch : Schedule) (l : Lowered) (well : IsAlgorithm a) (
     pub shape : AreTails xs bs g.placed others once rs k
     shape =
         skeleton_tails xs bs g.placed h.extents k others once (group.single_over a sch l well legal small kept all groups n first line g p claims needs at there h lined placed alone_here
-        laid split_alone keeps long ground) inners (λ c m. (fits c m).some) outers (group.outers_there a sch l well legal small kept all groups n first line g p claims needs at there h
-        lined placed alone_here laid split_alone keeps long ground) named_all h.laid
+        laid split_alone keeps long) inners (λ c m. (fits c m).some) outers (group.outers_there a sch l well legal small kept all groups n first line g p claims needs at there h
+        lined placed alone_here laid split_alone keeps long) named_all h.laid
 
-    -- no let stands over the grid
-    pub no_head : k.head ≡ []
-    no_head = of k.head (λ j step e. shape.heads j step e)
+    -- ---- lets over the grid
+
+    abbrev pub first_symbol : List Multiple → ℕ
+    first_symbol [] = 0
+    first_symbol (t ∷ more) = t.symbol
+
+    abbrev pub symbol_of : Form → ℕ
+    symbol_of f = first_symbol f.terms
+
+    abbrev pub step_symbol : Step → ℕ
+    step_symbol (Named s pick (f ∷ more)) = symbol_of f
+    step_symbol _ = 0
+
+    abbrev pub base : ℕ
+    base = length (piece_counts rs ls)
+
+    -- a let is over the form of a loop of the grid
+    head_form : (c : Split) → In c cuts → (s : ℕ) (f : Form) → combined (number (low c.whole)) (pos c.factor) (counted_from (pos 0) s) ≡ Some f → f ≡ one_of (low c.whole) (pos c.factor) s
+    head_form c m s f e = (combined-means (number (low c.whole)) (pos c.factor) (alone s) f e).is ∙ start_is (low c.whole) c.factor s (fits c m).some
+
+    -- each is the lesser of where a shifted split's block began and of where the last one has room; and its symbol is the first number of the block
+    pub record IsHeadLet (j : ℕ) (step : Step) : Type 0 where
+      pub split : Split
+      pub among : In split cuts
+      pub shifted : is_shifted split ≡ true
+      pub symbol : ℕ
+      pub less : symbol < base
+      pub over : form_named grid split.outer ≡ Some (counted_from (pos 0) symbol)
+      pub is : step ≡ Named (base + j) Min (one_of (low split.whole) (pos split.factor) symbol ∷ number (room (num split.whole) split.factor) ∷ [])
+      pub start : form_named k.starts split.whole ≡ Some (alone (base + j))
+
+    pub head_there : (j : ℕ) (step : Step) → slice_get k.head j ≡ Some step → IsHeadLet j step
+    head_there j step e =
+        let both = shape.firsts j step e in
+        let r = both.0 in
+        let o = group.outers_there a sch l well legal small kept all groups n first line g p claims needs at there h lined placed alone_here laid split_alone keeps long r.split r.among
+        r.outer r.by_outer in
+        let form = head_form r.split r.among o.0 r.form (ap (combined (number (low r.split.whole)) (pos r.split.factor)) (sym o.1) ∙ r.begins) in
+        record {
+          split = r.split;
+          among = r.among;
+          shifted = r.shifted;
+          symbol = o.0;
+          less = o.2;
+          over = r.by_outer ∙ ap (λ (f : Form). Some f) o.1;
+          is = r.is ∙ ap (λ (f : Form). Named (base + j) Min (f ∷ number (room (num r.split.whole) r.split.factor) ∷ [])) form;
+          start = both.1;
+        }
+
+    -- a symbol of the grid is that of one loop
+    grid_at : (s : ℕ) (os : List NestLoop) (x : List ℕ) (f : Form) → form_named (grid_forms rs s os) x ≡ Some f →
+        (j : ℕ) × (o : NestLoop) × (slice_get os j ≡ Some o) × (o.name ≡ x) × (symbol_of f ≡ s + j)
+    grid_at s [] x f e = absurd (cc e)
+    grid_at s (o ∷ os) x f e = of (same_name o.name x) refl e (grid_at (s + 1) os x f)
       where
-        of : (ss : List Step) → ((j : ℕ) (step : Step) → slice_get ss j ≡ Some step → IsHead cuts others once rs grid (length (piece_counts rs ls)) (length (piece_counts rs ls) + j) step) → ss ≡ []
-        of [] every = refl
-        of (s ∷ ss) every =
-            let r = every 0 s refl in
-            let plain = group.plain a sch l well legal small kept all groups n first line g p claims needs at there h lined placed alone_here laid split_alone keeps long ground r.split
-            r.among r.outer r.by_outer in
-            let clash : true ≡ false = sym r.shifted ∙ plain in
-            absurd (cc clash)
+        of : (b : Bool) → same_name o.name x ≡ b →
+            option_map (λ (k : Known). k.form) (if b then Some (record { name = o.name; form = counted_from (low o.name) s }) else find (λ (k : Known). same_name k.name x) (grid_forms rs (s + 1) os))
+            ≡ Some f → (form_named (grid_forms rs (s + 1) os) x ≡ Some f → (j : ℕ) × (v : NestLoop) × (slice_get os j ≡ Some v) × (v.name ≡ x) × (symbol_of f ≡ (s + 1) + j)) →
+            (j : ℕ) × (v : NestLoop) × (slice_get (o ∷ os) j ≡ Some v) × (v.name ≡ x) × (symbol_of f ≡ s + j)
+        of true name q rest =
+            let form : counted_from (low o.name) s ≡ f = cc q in
+            (0, o, refl, name_true o.name x name, ap symbol_of (sym form) ∙ omega arith)
+        of false name q rest = (let r = rest q in let place = r.4 in (suc r.0, r.1, r.2, r.3, omega (arith, place)))
+
+    same_over : (x y : List ℕ) (s : ℕ) → form_named grid x ≡ Some (counted_from (pos 0) s) → form_named grid y ≡ Some (counted_from (pos 0) s) → x ≡ y
+    same_over x y s e d =
+        let a = grid_at 0 (parallel_loops ls) x (counted_from (pos 0) s) e in
+        let b = grid_at 0 (parallel_loops ls) y (counted_from (pos 0) s) d in
+        let first_place = a.4 in
+        let second_place = b.4 in
+        let place : a.0 ≡ b.0 = omega (arith, first_place, second_place) in
+        let both : Some a.1 ≡ Some b.1 = sym a.2 ∙ ap (slice_get (parallel_loops ls)) place ∙ b.2 in
+        let loops : a.1 ≡ b.1 = cc both in
+        sym a.3 ∙ ap (λ (o : NestLoop). o.name) loops ∙ b.3
+
+    -- and the piece has as many turns as that loop
+    pub counted_at : (x : List ℕ) (s : ℕ) → form_named grid x ≡ Some (counted_from (pos 0) s) → slice_get k.grid s ≡ Some (num x).count
+    counted_at x s e =
+        let a = grid_at 0 (parallel_loops ls) x (counted_from (pos 0) s) e in
+        let first_place = a.4 in
+        let place : a.0 ≡ s = omega (arith, first_place) in
+        ap (λ (ns : List ℕ). slice_get ns s) shape.grid ∙ ap (slice_get (piece_counts rs ls)) (sym place) ∙ of (parallel_loops ls) a.0 a.1 a.2 ∙ ap (λ (y : List ℕ). Some (num y).count) a.3
+      where
+        of : (os : List NestLoop) (j : ℕ) (o : NestLoop) → slice_get os j ≡ Some o → slice_get (or_one (grid_counts rs os)) j ≡ Some (num o.name).count
+        of [] j o e = absurd (cc e)
+        of (v ∷ os) j o e = at_map (λ (o : NestLoop). (numbers_named rs o.name).count) (v ∷ os) j o e
+
+    -- the let of a split over the symbol of its outer loop is where its block begins
+    pub head_start : (c : Split) → In c cuts → (s : ℕ) → form_named grid c.outer ≡ Some (counted_from (pos 0) s) → (j : ℕ) (z : ℤ) →
+        slice_get k.head j ≡ Some (Named (base + j) Min (one_of (low c.whole) (pos c.factor) s ∷ number z ∷ [])) → form_named k.starts c.whole ≡ Some (alone (base + j))
+    head_start c m s over j z e =
+        let r = head_there j (Named (base + j) Min (one_of (low c.whole) (pos c.factor) s ∷ number z ∷ [])) e in
+        let symbols : s ≡ r.symbol = ap step_symbol r.is in
+        let outer : r.split.outer ≡ c.outer = same_over r.split.outer c.outer s (r.over ∙ ap (λ (i : ℕ). Some (counted_from (pos 0) i)) (sym symbols)) over in
+        let same_split : r.split ≡ c = outers r.split c r.among m outer in
+        subst (λ (d : Split). form_named k.starts d.whole ≡ Some (alone (base + j))) same_split r.start
+
+    pub head_lets : HeadIs base k.head
+    head_lets = head_is base k.head (λ j step e. (let r = head_there j step e in (
+      record { form = one_of (low r.split.whole) (pos r.split.factor) r.symbol; room = room (num r.split.whole) r.split.factor },
+      r.is,
+    )))
+
+    -- what is bound around a nest
+    abbrev pub around : List Binder
+    around = around_from (length k.grid) head_lets.lets (grid_binders k.grid)
+
+    pub around_is : lets_around k.head (grid_binders k.grid) ≡ around
+    around_is = head_lets.around (grid_binders k.grid) ∙ ap (λ (m : ℕ). around_from m head_lets.lets (grid_binders k.grid)) (sym (ap length shape.grid))
+
+    -- each is over symbols of the grid alone
+    pub head_below : (m : ℕ) → base ≤ m → AllByRecursion (λ l. IsBelow m l.form) head_lets.lets
+    head_below m most = all_slices (λ l. IsBelow m l.form) head_lets.lets (λ j l at_j. of j l at_j (step_at k.head j (fewer head_lets.lets j l at_j)))
+      where
+        fewer : (us : List HeadLet) (j : ℕ) (l : HeadLet) → slice_get us j ≡ Some l → j < length us
+        fewer [] j l e = absurd (cc e)
+        fewer (u ∷ us) zero l e = omega arith
+        fewer (u ∷ us) (suc j) l e = (let rest = fewer us j l e in omega (arith, rest))
+
+        step_at : (ss : List Step) (j : ℕ) → j < length head_lets.lets → (length head_lets.lets ≡ length ss) → (step : Step) × (slice_get ss j ≡ Some step)
+        step_at ss j less long = get ss j (omega (arith, less, long))
+          where
+            get : (ss : List Step) (j : ℕ) → j < length ss → (step : Step) × (slice_get ss j ≡ Some step)
+            get [] j less = absurd (omega (arith, less))
+            get (s ∷ ss) zero less = (s, refl)
+            get (s ∷ ss) (suc j) less = get ss j (omega (arith, less))
+
+        of : (j : ℕ) (l : HeadLet) → slice_get head_lets.lets j ≡ Some l → ((length head_lets.lets ≡ length k.head) → (step : Step) × (slice_get k.head j ≡ Some step)) → IsBelow m l.form
+        of j l at_j step =
+            let s = step head_lets.long in
+            let r = head_there j s.0 s.1 in
+            let less = r.less in
+            let made : HeadLet = record { form = one_of (low r.split.whole) (pos r.split.factor) r.symbol; room = room (num r.split.whole) r.split.factor } in
+            let there_too : slice_get head_lets.lets j ≡ Some made = head_lets.there j made (s.1 ∙ ap (λ (q : Step). Some q) r.is) in
+            let both : Some made ≡ Some l = sym there_too ∙ at_j in
+            let same_let : made ≡ l = cc both in
+            subst (λ (q : HeadLet). IsBelow m q.form) same_let (omega (arith, less, most), tt)
+
+    -- they are few
+    pub few_head : length k.head ≤ 6
+    few_head =
+        let few = (few_steps xs bs g.placed h.extents k h.laid).few_symbols in
+        let splits = group.few_cuts a sch l well legal small kept all groups n first line g p claims needs at there h lined placed alone_here laid split_alone keeps long in
+        let each = all_named 0 k.head (λ j step e. (let r = head_there j step e in (
+          base + j,
+          one_of (low r.split.whole) (pos r.split.factor) r.symbol ∷ number (room (num r.split.whole) r.split.factor) ∷ [],
+          r.is,
+        ))) in
+        omega (arith, few, splits, each)
+      where
+        all_named : (i : ℕ) (ss : List Step) → ((j : ℕ) (step : Step) → slice_get ss j ≡ Some step → (s : ℕ) × (forms : List Form) × (step ≡ Named s Min forms)) → length ss ≤ binders ss
+        all_named i [] every = omega arith
+        all_named i (s ∷ ss) every =
+            let one = every 0 s refl in
+            let rest = all_named (i + 1) ss (λ j step e. every (suc j) step e) in
+            subst (λ (q : Step). length (q ∷ ss) ≤ binders (q ∷ ss)) (sym one.2) (omega (arith, rest))
 
     -- the variables have names of their own
     pub distinct_here : AreDistinct xs
-    distinct_here = distinct_of xs (group.names_apart a sch l well legal small kept all groups n first line g p claims needs at there h lined placed alone_here laid split_alone keeps long ground)
+    distinct_here = distinct_of xs (group.names_apart a sch l well legal small kept all groups n first line g p claims needs at there h lined placed alone_here laid split_alone keeps long)

@@ -1,14 +1,11 @@
--- All that the claims of nests owe is shown, of functions whose loops are split once, with any tail, in any order, where no shifted split's outer loop runs over pieces.
-use Rattle.std.proofs.Common.{◌≡◌, ℕ, zero, suc, ◌+◌, ◌-◌, ◌<◌, ◌≤◌, ◌^◌, Bool, true, false, ◌&&◌, ◌||◌, List, [], ◌∷◌, ◌++◌, length, map, take, drop}
-use Rattle.std.proofs.Common.{Option, Some, None, refl, sym, ap, ◌∙◌, subst, inl, inr, ◌⊎◌, arith}
-use Rattle.std.specs.Prelude.{ℤ, pos, ◌==◌, if◌then◌else◌, slice_get}
-use Rattle.std.specs.List.{AllByRecursion, list_any, list_all}
+-- All that the claims of nests owe is shown, of functions whose loops are split once, with any tail, in any order.
+use Rattle.std.proofs.Common.{◌≡◌, ℕ, zero, suc, ◌+◌, ◌-◌, ◌<◌, ◌≤◌, ◌^◌, Bool, true, false, ◌&&◌, ◌||◌, List, [], ◌∷◌, length, map}
+use Rattle.std.proofs.Common.{Some, None, refl, sym, ap, ◌∙◌, subst, inl, inr, ◌⊎◌, arith}
+use Rattle.std.specs.Prelude.{ℤ, if◌then◌else◌, slice_get}
+use Rattle.std.specs.List.{AllByRecursion}
 use Rattle.std.specs.Int.RustNames.{unsigned_abs}
-use Rattle.std.proofs.lemmas.Int.{ints}
-use Rattle.std.proofs.lemmas.Bool.Decides.{nat_tests}
-use Rattle.std.proofs.lemmas.List.{length-map}
 use Rattle.tree.specs.Term.{Term}
-use Rattle.lin.specs.Forms.{Form, number, combined}
+use Rattle.lin.specs.Forms.{Form}
 use Rattle.lin.specs.declared.span.Span1.{Span1}
 use Rattle.plan.specs.declared.plan.Group.{Group as CodeGroup}
 use Rattle.plan.specs.declared.stmt.Pick.{Pick}
@@ -16,7 +13,7 @@ use Rattle.plan.specs.declared.stmt.Places.{Places}
 use Rattle.plan.specs.declared.certificate.cert.Claim.{Claim as CodeClaim}
 use Rattle.plan.specs.declared.certificate.cert.Need.{Need}
 use Rattle.plan.specs.declared.certificate.cert.Window.{Window}
-use Rattle.plan.specs.Plan.{At, Coordinate, Statement, Store, Empty, Then, Group, Plan}
+use Rattle.plan.specs.Plan.{Coordinate, Statement, Store, Empty, Then, Group, Plan}
 use Rattle.plan.specs.View.{group_of, plan_of, statement_of}
 use Rattle.plan.specs.Lines.{lines, body_line}
 use Rattle.plan.specs.Certificate.Certificate.{Claim, Certificate, certificate_of}
@@ -26,12 +23,12 @@ use Rattle.meaning.specs.Names.{same_name}
 use Rattle.soundness.specs.Claims.{In, updates}
 use Rattle.soundness.specs.Origins.{Outline}
 use Rattle.soundness.specs.Given.{outline_of}
-use Rattle.soundness.specs.Obligations.{Binder, Known as KnownHere, Rules, has_form, is_form, goes_on, claim_obligations}
+use Rattle.soundness.specs.Obligations.{Binder, Known as KnownHere, Rules, goes_on, claim_obligations}
 use Rattle.soundness.specs.Shown.{Nests, all_shown, start}
 use Rattle.soundness.specs.Binders.View.{grid_binders}
 use Rattle.soundness.specs.Nests.Laws.{domains_of}
-use Rattle.soundness.specs.Nests.Tests.{left_of, over_of, plain_nests}
-use Rattle.soundness.proofs.Refines.{name_refl, eq_true, name_true}
+use Rattle.soundness.specs.Nests.Tests.{plain_nests}
+use Rattle.soundness.proofs.Refines.{name_refl}
 use Rattle.rules.specs.Bounding.Rules.{rules_of}
 use Rattle.headline.proofs.Lists.{from_map}
 use Rattle.headline.proofs.Regions.{at_in}
@@ -45,142 +42,67 @@ use Rattle.sched.specs.declared.skeleton.Known.{Known}
 use Rattle.sched.specs.declared.skeleton.Step.{Step}
 use Rattle.sched.specs.declared.nest.Turning.{Turning}
 use Rattle.sched.specs.Numbers.{numbers_named, last_number, loop_numbers, parallel_loops, piece_counts}
-use Rattle.sched.specs.Placing.{is_parallel}
-use Rattle.sched.specs.Standing.{form_named, counted_from, alone, cuts_by_variable}
-use Rattle.sched.specs.Skeleton.{BodyText, NestText, SkeletonText, loop_turning, is_missing, nest_turns, variables_at, ranges_at, grid_forms, kept_from}
-use Rattle.sched.proofs.Standings.{Stands, found_all}
-use Rattle.sched.proofs.Rooting.{IsHeld}
+use Rattle.sched.specs.Standing.{form_named}
+use Rattle.sched.specs.Skeleton.{BodyText, NestText, SkeletonText, nest_turns, grid_forms}
 use Rattle.tails.specs.Steps.{spine_of}
-use Rattle.tails.specs.Maps.{covers}
-use Rattle.tails.specs.Apart.{index_form, form_of}
 use Rattle.tails.specs.Nests.{makes_by}
 use Rattle.lower.specs.declared.lowering.Lowered.{Lowered}
 use Rattle.lower.specs.Stored.{FormulaText, StoredText, stored_functions, has_large}
 use Rattle.lower.specs.Faults.{are_whole, region_fault}
 use Rattle.lower.specs.Regions.{bodies_from}
-use Rattle.lower.specs.Around.{names_with}
 use Rattle.lower.specs.Owning.{IsLaidBy}
 use Rattle.lower.specs.Loading.{Loads}
 use Rattle.lower.specs.Blocks.{LayText, lay_over, dimension_of}
 use Rattle.lower.specs.Blocks.{dimensions_of, claimed_region, own_places}
-use Rattle.lower.specs.Bodies.{IsIndex, first_left, other_lefts, AreCoordinates, IsStore}
+use Rattle.lower.specs.Bodies.{IsStore}
 use Rattle.lower.specs.Fetches.{Entry as Fetched, Claims}
 use Rattle.lower.specs.Groups.{HasBody, HasGroups}
 use Rattle.lower.proofs.Blocking.{IsSmall, CutFits}
-use Rattle.lower.proofs.Directed.{IsLeaf}
-use Rattle.lower.proofs.Owners as owners
 use Rattle.completeness.specs.Laws.{IsFetch, AreSplitOnce}
 use Rattle.completeness.specs.Parted.{KeepsInner}
 use Rattle.completeness.specs.Owed.{EachClaim, AreClaimsNear}
 use Rattle.completeness.specs.Nested.{SayYes, TakeSplit}
-use Rattle.completeness.proofs.Halves.{AreOthers, inner_outer}
+use Rattle.completeness.proofs.Halves.{AreOthers}
 use Rattle.completeness.proofs.Lanes.{AreOnce}
 use Rattle.completeness.proofs.Owned.{some_same, same_extents, same_skeleton}
-use Rattle.completeness.proofs.PlainTurns.{limited_for, hits, hits_once, itself, turn_name, one_if, hits_some}
-use Rattle.completeness.proofs.PureNests.{all_in, loop_name, index_at}
-use Rattle.completeness.proofs.UpdateTurns.{hits_fewer}
-use Rattle.completeness.proofs.GridTurns.{grid_none, grid_some}
-use Rattle.completeness.proofs.BlockSums.{pair_is}
+use Rattle.completeness.proofs.PlainTurns.{hits}
+use Rattle.completeness.proofs.PureNests.{loop_name}
 use Rattle.completeness.proofs.GridCounts.{IsShort}
-use Rattle.completeness.proofs.GuardSums.{left_over}
-use Rattle.completeness.proofs.BlockFacts.{loops_held, in_all_cuts, serial_none, parallel_some}
-use Rattle.std.specs.Prelude.{not, filter, reverse}
 use Rattle.meaning.specs.Algorithm.{Range}
-use Rattle.meaning.specs.Conditions.{AreDistinct, IsRange}
 use Rattle.soundness.specs.Obligations.{is_next}
-use Rattle.soundness.specs.Nests.Tests.{is_among as is_among_loops, are_whole as are_whole_loops, is_reduced}
-use Rattle.sched.specs.Skeleton.{span, range_turning}
-use Rattle.tails.specs.Steps.{binder, binds}
-use Rattle.tails.specs.Maps.{is_beyond, is_once}
-use Rattle.tails.specs.Moves.{is_outer}
-use Rattle.tails.specs.Apart.{is_apart}
-use Rattle.tails.specs.Updates.{loops_in, pure_steps, forms_in, at_forms, is_parted, is_spread, is_stepped, is_in_steps}
-use Rattle.lower.specs.Around.{range_names}
-use Rattle.headline.proofs.Lists.{at_left, at_right}
+use Rattle.sched.specs.Skeleton.{range_turning}
+use Rattle.tails.specs.Updates.{is_in_steps}
 use Rattle.soundness.proofs.Refines.{eq_refl}
-use Rattle.completeness.proofs.Laid.{none_twice}
-use Rattle.completeness.proofs.Written.{variables_long}
-use Rattle.completeness.proofs.PlainTests.{limited_loops}
-use Rattle.completeness.proofs.PlainTurns.{hits_append, found_at, found_some, found_there}
-use Rattle.completeness.proofs.UpdateTurns.{known_update, ranges_turned, range_name, ranges_hits}
-use Rattle.completeness.proofs.BlockFacts.{made_new, among_end, names_in}
-use Rattle.completeness.proofs.BlockRanges.{kept_once, kept_index, kept_among, end_whole, reduced_in, IsLoopTurn, IsRangeTurn, first as first_loops}
-use Rattle.completeness.proofs.BlockRanges.{last as last_loops, between, turned, parts, loop_parts, range_parts, loop_there, range_there, turns_once as nest_once}
-use Rattle.completeness.proofs.PureNests.{all_get}
-use Rattle.completeness.proofs.BlockNests.{stored_there, length_append}
-use Rattle.completeness.proofs.TailGroups as group
+use Rattle.completeness.proofs.UpdateTurns.{known_update, ranges_turned}
+use Rattle.completeness.proofs.BlockRanges.{reduced_in}
+use Rattle.completeness.proofs.BlockNests.{stored_there}
 use Rattle.completeness.proofs.TailLaw as pure_of
 use Rattle.completeness.proofs.TailUpdates as update_of
 use Rattle.lower.specs.Stored.{flags}
 use Rattle.completeness.proofs.Laid.{subjects, found}
 use Rattle.completeness.proofs.Defined.{other_put}
-use Rattle.completeness.specs.Blocked.{AreShiftsInside, IsTailed, BlockedClaimsOweShown}
-use Rattle.plan.specs.declared.stmt.Kind.{Kind}
-use Rattle.plan.specs.declared.stmt.Kind.TheVariants.{Serial, Unroll, Vector}
-use Rattle.std.specs.Prelude.{negsuc, nat_lt, ◌≤ℤ◌}
-use Rattle.lin.specs.Forms.{without, is_within_limits}
-use Rattle.lin.proofs.Limits.{combined-means}
-use Rattle.headline.proofs.Lists.{at_map}
-use Rattle.sched.specs.declared.placing.Mark.{Mark}
-use Rattle.sched.specs.declared.placing.Mark.TheVariants as mark
-use Rattle.sched.specs.Placing.{is_vectorized, is_shifted}
-use Rattle.sched.specs.Skeleton.{kind_of}
-use Rattle.sched.specs.Standing.{room}
+use Rattle.completeness.specs.Fitting.{IsSplitOnce}
+use Rattle.completeness.specs.Blocked.{BlockedClaimsOweShown}
 use Rattle.sched.specs.Numbers.{is_too_short}
-use Rattle.rules.specs.Bounding.Scopes.{most_symbols}
-use Rattle.completeness.proofs.Halves.{IsInner, lanes_inner, by_whole}
-use Rattle.completeness.proofs.Searched.{one_of}
-use Rattle.completeness.proofs.GuardSums.{left_is}
-use Rattle.completeness.proofs.BlockSums.{multiple, pair, two_of, start_is}
-use Rattle.completeness.proofs.BlockFacts.{places_same, turn_from}
-use Rattle.completeness.proofs.SplitTests.{grid_spelled}
-use Rattle.completeness.proofs.BlockNames.{LeafOf, IsTurnOf, IsForeign, IsNestTurn, turn_of, half_of}
-use Rattle.completeness.proofs.TailSteps.{Line, Loop, Block, Pair, is_loop, line_steps, steps_of}
-use Rattle.completeness.proofs.TailTurns.{keeps_rest, Entry, let_of, entry_steps, Leaf, LetAt, IsBegun, IsLimited, IsPaired, Kept, Right, IsTurn, IsLet, IsEntry, IsLimit, IsPair, IsBlock, IsWhole, not_shifted}
-use Rattle.completeness.proofs.TailSkeletons.{IsTailNest, AreTails}
-use Rattle.completeness.proofs.TailDims.{end_of_all, all_of}
-use Rattle.bounds.specs.Spans.{numbers}
-use Rattle.plan.specs.declared.stmt.Places.TheVariants.{From}
-use Rattle.completeness.proofs.TailNames.{owner_named, IsKeptBy, IsLetOf, IsPairLet, IsBlockLet, factor, owner, tops, owner_there, HasPlain, plain_grid, plain_loop, plain_block, plain_split, plain_pair, plain_shift}
+use Rattle.completeness.proofs.BlockNames.{LeafOf}
+use Rattle.completeness.proofs.TailSteps.{Line, Pair, line_steps, steps_of}
+use Rattle.completeness.proofs.TailTurns.{keeps_rest, Entry, entry_steps, IsEntry, IsPair, IsBlock}
+use Rattle.completeness.proofs.TailSkeletons.{AreTails}
 use Rattle.completeness.proofs.Served.{roots}
-
 use Rattle.completeness.proofs.TailShapes as shape_of
-use Rattle.completeness.proofs.TailTurns.{Extends, Woven}
-use Rattle.soundness.specs.Nests.Nest.{is_symbol}
 use Rattle.soundness.specs.Obligations.{Binder}
 use Rattle.completeness.proofs.TailLines.{always}
-
-use Rattle.std.specs.Prelude.{take}
 use Rattle.completeness.proofs.PureNests.{all_slices}
-use Rattle.completeness.proofs.UpdateTests.{ReadsIf, none_index}
-use Rattle.completeness.proofs.BlockNames as old
 use Rattle.completeness.proofs.TailNests as nest_of
-use Rattle.completeness.proofs.Courses.{begin_of}
-use Rattle.completeness.proofs.TailSums.{course, AreSums, Each, sum_forms, LinesFit}
-use Rattle.completeness.proofs.TailTests.{IsClaimed, AreLow}
-use Rattle.completeness.proofs.TailLines.{LoopFirst}
-use Rattle.completeness.proofs.TailNames.{lines_fit, are_low}
-
-use Rattle.tails.specs.Stored.{is_pure, stored_by}
-use Rattle.tails.specs.Nests.{makes_split}
-use Rattle.tails.specs.Steps.{Step as Way}
-use Rattle.lin.specs.Search.{is_empty}
-use Rattle.std.specs.Option.{option_map}
-use Rattle.soundness.specs.Obligations.{places_of}
 use Rattle.completeness.proofs.NestWalk.{down, IsRest, Holds, LetsFirst}
-use Rattle.completeness.proofs.ClaimedNests.{claim_is, own_buffer, near_shown, updating, body_each}
+use Rattle.completeness.proofs.ClaimedNests.{claim_is, own_buffer, near_shown, updating, body_around}
 use Rattle.completeness.proofs.Served.{made_at}
 use Rattle.completeness.proofs.NamedClaims.{alone_body}
-use Rattle.completeness.proofs.BlockNests.{take_all}
-use Rattle.completeness.proofs.BlockFacts.{all_kept}
 use Rattle.completeness.proofs.LoopMoves.{true_end}
-use Rattle.completeness.proofs.TailLines.{lines_of, lines_kept, spine_is, first_steps, no_lets, scoped_kept}
-use Rattle.completeness.proofs.TailTests.{IsPlaced, IsPlacedSum, places_there, covered, once as met_once, kept_outer, pure_are, reducing_are, out_apart, AreOutside, IsOutside, AreGone}
-use Rattle.completeness.proofs.BlockKept.{is_kept, left_out, out_beyond, out_free, out_none, AreBare}
-use Rattle.completeness.proofs.UpdateTests.{none_if, some_if, near_ranges, parted_coordinates, coordinates_long, take_long}
-use Rattle.completeness.proofs.TailRanges.{middle_of, reduced as reduced_loops, IsMiddle, IsFrom}
+use Rattle.completeness.proofs.TailLines.{lines_of, spine_is, first_steps}
 use Rattle.completeness.proofs.ShortShifts.{long_shifts, updates_unshifted}
 use Rattle.completeness.specs.Blocked.{BlockedClaimsShown}
+
 some_long : {A : Type 0} (xs : List A) (i : ℕ) (x : A) → slice_get xs i ≡ Some x → 1 ≤ length xs
 some_long [] i x e = absurd (cc e)
 some_long (y ∷ ys) i x e = omega arith
@@ -221,8 +143,7 @@ module _ (a : Algorithm) (sch : Schedule) (l : Lowered) (well : IsAlgorithm a) (
       (placed : (j : ℕ) (v : CodeClaim) → slice_get claims j ≡ Some v → slice_get items (first + j) ≡ Some v)
       (alone_here : (j : ℕ) (w : CodeClaim) → slice_get items j ≡ Some w → line < w.line → w.line < line + (lines (statement_of p.body) + 1) → In w claims)
       (laid : IsLaidBy g h.extents h.skeleton) (split_alone : AreSplitOnce g.placed.cuts) (keeps : KeepsInner g.placed.loops g.placed.cuts)
-      (long : AllByRecursion (λ c. is_too_short (loop_numbers g.subject.variables g.placed.cuts h.extents) c ≡ false) g.placed.cuts)
-      (ground : AllByRecursion (λ c. (is_shifted c && list_any (λ o. is_parallel o && same_name o.name c.outer) g.placed.loops) ≡ false) g.placed.cuts) where
+      (long : AllByRecursion (λ c. is_too_short (loop_numbers g.subject.variables g.placed.cuts h.extents) c ≡ false) g.placed.cuts) where
     abbrev pub k : SkeletonText
     k = h.skeleton
 
@@ -278,56 +199,56 @@ module _ (a : Algorithm) (sch : Schedule) (l : Lowered) (well : IsAlgorithm a) (
     place x = (dimension_of lay cuts x).places
 
     abbrev pub others : AreOthers cuts
-    others = shape_of.others a sch l well legal small kept all groups n first line g p claims needs at there h lined placed alone_here laid split_alone keeps long ground
+    others = shape_of.others a sch l well legal small kept all groups n first line g p claims needs at there h lined placed alone_here laid split_alone keeps long
 
     abbrev pub once : AreOnce cuts
-    once = shape_of.once a sch l well legal small kept all groups n first line g p claims needs at there h lined placed alone_here laid split_alone keeps long ground
+    once = shape_of.once a sch l well legal small kept all groups n first line g p claims needs at there h lined placed alone_here laid split_alone keeps long
 
     abbrev pub halves : (c : Split) → In c cuts → (x : List ℕ) → In x xs → (x ≡ c.outer → ⊥) × (x ≡ c.inner → ⊥)
-    halves = shape_of.halves a sch l well legal small kept all groups n first line g p claims needs at there h lined placed alone_here laid split_alone keeps long ground
+    halves = shape_of.halves a sch l well legal small kept all groups n first line g p claims needs at there h lined placed alone_here laid split_alone keeps long
 
     abbrev pub outers : (c d : Split) → In c cuts → In d cuts → c.outer ≡ d.outer → c ≡ d
-    outers = shape_of.outers a sch l well legal small kept all groups n first line g p claims needs at there h lined placed alone_here laid split_alone keeps long ground
+    outers = shape_of.outers a sch l well legal small kept all groups n first line g p claims needs at there h lined placed alone_here laid split_alone keeps long
 
     abbrev pub gone : (c : Split) → In c cuts → (o : NestLoop) → In o ls → c.whole ≡ o.name → ⊥
-    gone = shape_of.gone a sch l well legal small kept all groups n first line g p claims needs at there h lined placed alone_here laid split_alone keeps long ground
+    gone = shape_of.gone a sch l well legal small kept all groups n first line g p claims needs at there h lined placed alone_here laid split_alone keeps long
 
     abbrev pub wholes : (c : Split) → In c cuts → In c.whole xs
-    wholes = shape_of.wholes a sch l well legal small kept all groups n first line g p claims needs at there h lined placed alone_here laid split_alone keeps long ground
+    wholes = shape_of.wholes a sch l well legal small kept all groups n first line g p claims needs at there h lined placed alone_here laid split_alone keeps long
 
     abbrev pub fits : (c : Split) → In c cuts → CutFits rs c
-    fits = shape_of.fits a sch l well legal small kept all groups n first line g p claims needs at there h lined placed alone_here laid split_alone keeps long ground
+    fits = shape_of.fits a sch l well legal small kept all groups n first line g p claims needs at there h lined placed alone_here laid split_alone keeps long
 
     abbrev pub single : (y : List ℕ) → hits loop_name y ls ≤ 1
-    single = shape_of.single a sch l well legal small kept all groups n first line g p claims needs at there h lined placed alone_here laid split_alone keeps long ground
+    single = shape_of.single a sch l well legal small kept all groups n first line g p claims needs at there h lined placed alone_here laid split_alone keeps long
 
     abbrev pub inners : (c : Split) → In c cuts → form_named grid c.inner ≡ None
-    inners = shape_of.inners a sch l well legal small kept all groups n first line g p claims needs at there h lined placed alone_here laid split_alone keeps long ground
+    inners = shape_of.inners a sch l well legal small kept all groups n first line g p claims needs at there h lined placed alone_here laid split_alone keeps long
 
     abbrev pub leaf_of : (o : NestLoop) → In o ls → LeafOf xs ls cuts rs others once halves outers gone o.name
-    leaf_of = shape_of.leaf_of a sch l well legal small kept all groups n first line g p claims needs at there h lined placed alone_here laid split_alone keeps long ground
+    leaf_of = shape_of.leaf_of a sch l well legal small kept all groups n first line g p claims needs at there h lined placed alone_here laid split_alone keeps long
 
     abbrev pub shape : AreTails xs bs g.placed others once rs k
-    shape = shape_of.shape a sch l well legal small kept all groups n first line g p claims needs at there h lined placed alone_here laid split_alone keeps long ground
+    shape = shape_of.shape a sch l well legal small kept all groups n first line g p claims needs at there h lined placed alone_here laid split_alone keeps long
 
     abbrev pub NumbersFit : List ℕ → Type 0
-    NumbersFit = shape_of.NumbersFit a sch l well legal small kept all groups n first line g p claims needs at there h lined placed alone_here laid split_alone keeps long ground
+    NumbersFit = shape_of.NumbersFit a sch l well legal small kept all groups n first line g p claims needs at there h lined placed alone_here laid split_alone keeps long
 
     abbrev pub fit_of : (x : List ℕ) → In x xs → NumbersFit x
-    fit_of = shape_of.fit_of a sch l well legal small kept all groups n first line g p claims needs at there h lined placed alone_here laid split_alone keeps long ground
+    fit_of = shape_of.fit_of a sch l well legal small kept all groups n first line g p claims needs at there h lined placed alone_here laid split_alone keeps long
 
     abbrev pub sized : (c : Split) → In c cuts → IsSmall (num c.whole) × (0 < (num c.whole).count)
-    sized = shape_of.sized a sch l well legal small kept all groups n first line g p claims needs at there h lined placed alone_here laid split_alone keeps long ground
+    sized = shape_of.sized a sch l well legal small kept all groups n first line g p claims needs at there h lined placed alone_here laid split_alone keeps long
 
     abbrev pub shorts : AllByRecursion IsShort k.grid
-    shorts = shape_of.shorts a sch l well legal small kept all groups n first line g p claims needs at there h lined placed alone_here laid split_alone keeps long ground
+    shorts = shape_of.shorts a sch l well legal small kept all groups n first line g p claims needs at there h lined placed alone_here laid split_alone keeps long
 
     abbrev pub near_named : (y : List ℕ) → LeafOf xs ls cuts rs others once halves outers gone y → (unsigned_abs (low y) ≤ 2 ^ 36) × (unsigned_abs (last y) ≤ 2 ^ 36)
-    near_named = shape_of.near_named a sch l well legal small kept all groups n first line g p claims needs at there h lined placed alone_here laid split_alone keeps long ground
+    near_named = shape_of.near_named a sch l well legal small kept all groups n first line g p claims needs at there h lined placed alone_here laid split_alone keeps long
 
-    abbrev pub loop_leaf : (o : NestLoop) → In o ls → (x : List ℕ) × (slice_get xs o.dimension ≡ Some x) × ((x ≡ o.name) ⊎ ((c : Split) × In c cuts × (c.whole ≡ x) × ((o.name ≡ c.outer) ⊎ (o.name ≡ c.inner))))
-    loop_leaf = shape_of.loop_leaf a sch l well legal small kept all groups n first line g p claims needs at there h lined placed alone_here laid split_alone keeps long ground
-
+    abbrev pub loop_leaf : (o : NestLoop) → In o ls → (x : List ℕ) × (slice_get xs o.dimension ≡ Some x) × ((x ≡ o.name) ⊎ ((c : Split) × In c cuts × (c.whole ≡ x) × ((o.name ≡ c.outer) ⊎
+        (o.name ≡ c.inner))))
+    loop_leaf = shape_of.loop_leaf a sch l well legal small kept all groups n first line g p claims needs at there h lined placed alone_here laid split_alone keeps long
 
     -- ---- the law
 
@@ -335,7 +256,7 @@ module _ (a : Algorithm) (sch : Schedule) (l : Lowered) (well : IsAlgorithm a) (
     NoLet i pick forms = ⊥
 
     abbrev OverGrids : List Binder → Type 0
-    OverGrids bs = bs ≡ grid_binders k.grid
+    OverGrids bs = bs ≡ shape_of.around a sch l well legal small kept all groups n first line g p claims needs at there h lined placed alone_here laid split_alone keeps long
 
     updates_agree : (i : ℕ) (w : NestText) → slice_get k.nests (suc i) ≡ Some w → (ms : Loads) (cs : List Coordinate) (e : Term) → IsStore g fs ms (suc i) w (Store 0 (suc i) cs e) →
         (part : List Step) → IsRest w.steps part → (s : Statement) → Then s Empty ≡ down 0 (suc i) cs e part → (c : ℕ) (v : CodeClaim) (at_line : ℕ) → slice_get items c ≡ Some v →
@@ -351,12 +272,18 @@ module _ (a : Algorithm) (sch : Schedule) (l : Lowered) (well : IsAlgorithm a) (
         ranges_turned g.changes fs (suc i) q.body (ap (λ (names : List (List ℕ)). slice_get (bodies_from g.changes 0 names fs) (suc i)) (sym of_update.reductions) ∙ q.at)
         ∙ ap (map range_turning) of_update.ranges in
         let unshifted = updates_unshifted a sch legal n g at (some_changes a sch n g at fs h.defined i f.0 f.1) in
-        let lim = nest_of.lim a sch l well legal small kept all groups n first line g p claims needs at there h lined placed alone_here laid split_alone keeps long ground (suc i) w stands ds reduced of_update.names of_update.within ranged always (λ j e at_j k. refl) in
-        let kinds = nest_of.kinds a sch l well legal small kept all groups n first line g p claims needs at there h lined placed alone_here laid split_alone keeps long ground (suc i) w stands ds reduced of_update.names of_update.within ranged always (λ j e at_j k. refl) in
-        let ts = nest_of.ts a sch l well legal small kept all groups n first line g p claims needs at there h lined placed alone_here laid split_alone keeps long ground (suc i) w stands ds reduced of_update.names of_update.within ranged always (λ j e at_j k. refl) in
-        let lead = nest_of.first_loop a sch l well legal small kept all groups n first line g p claims needs at there h lined placed alone_here laid split_alone keeps long ground (suc i) w stands ds reduced of_update.names of_update.within ranged always (λ j e at_j k. refl) (suc i) cs e in
-        let all_steps = nest_of.steps_so a sch l well legal small kept all groups n first line g p claims needs at there h lined placed alone_here laid split_alone keeps long ground (suc i) w stands ds reduced of_update.names of_update.within ranged always (λ j e at_j k. refl) in
-        let code : Then s Empty ≡ down 0 (suc i) cs e (steps_of kinds lim q.next ts) = comes ∙ ap (down 0 (suc i) cs e) (first_steps kinds lim (suc i) cs e q.next ts lead w.steps part all_steps rest) in
+        let lim = nest_of.lim a sch l well legal small kept all groups n first line g p claims needs at there h lined placed alone_here laid split_alone keeps long (suc i) w stands ds
+        reduced of_update.names of_update.within ranged always (λ j e at_j k. refl) in
+        let kinds = nest_of.kinds a sch l well legal small kept all groups n first line g p claims needs at there h lined placed alone_here laid split_alone keeps long (suc i) w stands ds
+        reduced of_update.names of_update.within ranged always (λ j e at_j k. refl) in
+        let ts = nest_of.ts a sch l well legal small kept all groups n first line g p claims needs at there h lined placed alone_here laid split_alone keeps long (suc i) w stands ds reduced
+        of_update.names of_update.within ranged always (λ j e at_j k. refl) in
+        let lead = nest_of.first_loop a sch l well legal small kept all groups n first line g p claims needs at there h lined placed alone_here laid split_alone keeps long (suc i) w stands
+        ds reduced of_update.names of_update.within ranged always (λ j e at_j k. refl) (suc i) cs e in
+        let all_steps = nest_of.steps_so a sch l well legal small kept all groups n first line g p claims needs at there h lined placed alone_here laid split_alone keeps long (suc i) w
+        stands ds reduced of_update.names of_update.within ranged always (λ j e at_j k. refl) in
+        let code : Then s Empty ≡ down 0 (suc i) cs e (steps_of kinds lim q.next ts) = comes ∙ ap (down 0 (suc i) cs e) (first_steps kinds lim (suc i) cs e q.next ts lead w.steps part
+        all_steps rest) in
         let is = claim_is a sch l well legal small kept all groups n first line g p claims needs at there h lined placed alone_here c v found_at_c in
         let buffered : (O.claim c).buffer ≡ 0 = ap (λ (x : Claim). x.buffer) is ∙ says.buffered in
         let name : (O.claim c).function ≡ g.subject.name = ap (λ (x : Claim). x.function) is ∙ says.named in
@@ -369,8 +296,10 @@ module _ (a : Algorithm) (sch : Schedule) (l : Lowered) (well : IsAlgorithm a) (
         let goes : goes_on O R s c ≡ Some i = ap (λ (t : Bool). if t then Some ((O.claim c).definition - 1) else None) changed ∙ ap (λ (m : ℕ). Some m) one_less in
         let spine : spine_of s (O.claim c).buffer ≡ Some (record { steps = lines_of kinds lim q.next ts; line = Store 0 (suc i) cs e }) =
         ap (spine_of s) buffered ∙ spine_is kinds lim (suc i) cs e q.next ts lead s code in
-        let turn = update_of.stepped a sch l well legal small kept all groups n first line g p claims needs at there h lined placed alone_here laid split_alone keeps long ground i w stands ds reduced of_update.names of_update.within ranged unshifted ms cs e stores of_update.domain (O.claim c) defined named_so name over in
-        let wide = update_of.spread a sch l well legal small kept all groups n first line g p claims needs at there h lined placed alone_here laid split_alone keeps long ground i w stands ds reduced of_update.names of_update.within ranged unshifted ms cs e stores of_update.domain (O.claim c) defined named_so name over in
+        let turn = update_of.stepped a sch l well legal small kept all groups n first line g p claims needs at there h lined placed alone_here laid split_alone keeps long i w stands ds
+        reduced of_update.names of_update.within ranged unshifted ms cs e stores of_update.domain (O.claim c) defined named_so name over in
+        let wide = update_of.spread a sch l well legal small kept all groups n first line g p claims needs at there h lined placed alone_here laid split_alone keeps long i w stands ds
+        reduced of_update.names of_update.within ranged unshifted ms cs e stores of_update.domain (O.claim c) defined named_so name over in
         let after : is_next i (O.claim c).definition ≡ true = ap (is_next i) defined ∙ eq_refl i in (
           (λ seats held.
               let made : makes_by O.setting R (domains_of a) known.binders (O.claim c) (goes_on O R s c) seats (spine_of s (O.claim c).buffer) ≡ true =
@@ -388,7 +317,8 @@ module _ (a : Algorithm) (sch : Schedule) (l : Lowered) (well : IsAlgorithm a) (
 
     -- no nest begins with a let
     bare_nests : AllByRecursion (λ w. LetsFirst NoLet w.steps) k.nests
-    bare_nests = all_slices (λ w. LetsFirst NoLet w.steps) k.nests (λ d w e. (let u = shape.nests d w e in subst (LetsFirst NoLet) (sym u.steps) (of u.entries u.next (nest_turns u.body rs ls) (u.each 0))))
+    bare_nests = all_slices (λ w. LetsFirst NoLet w.steps) k.nests (λ d w e. (let u = shape.nests d w e in subst (LetsFirst NoLet) (sym u.steps) (of u.entries u.next (nest_turns u.body rs
+        ls) (u.each 0))))
       where
         of : (es : List Entry) (m : ℕ) (us : List Turning) →
             ((e : Entry) → slice_get es 0 ≡ Some e → IsEntry cuts others once rs grid (length (piece_counts rs ls)) k.head m es us 0 e) → LetsFirst NoLet (entry_steps m es)
@@ -410,7 +340,7 @@ module _ (a : Algorithm) (sch : Schedule) (l : Lowered) (well : IsAlgorithm a) (
         OverGrids known.binders → Holds places known → (c : ℕ) → slice_get items c ≡ Some v → (nests : Nests) → TakeSplit a plan cert n (group_of p) nests →
         SayYes O R nests known s c
     yes zero ms w v at_line stands says cs e stores part rest s comes known binders holds c found_at_c nests takes =
-        pure_of.yes_first a sch l well legal small kept all groups n first line g p claims needs at there h lined placed alone_here laid split_alone keeps long ground ms w v at_line stands says
+        pure_of.yes_first a sch l well legal small kept all groups n first line g p claims needs at there h lined placed alone_here laid split_alone keeps long ms w v at_line stands says
         cs e stores part rest s comes known binders holds c found_at_c nests takes
     yes (suc i) ms w v at_line stands says cs e stores part rest s comes known binders holds c found_at_c nests takes =
         updates_agree i w stands ms cs e stores part rest s comes c v at_line found_at_c says known binders nests takes
@@ -421,13 +351,12 @@ module _ (a : Algorithm) (sch : Schedule) (l : Lowered) (well : IsAlgorithm a) (
 
     blocked_shown : AreClaimsNear cert → EachClaim O R Shown [] (statement_of p.body) (body_line plan n) (start (grid_binders p.grid.items))
     blocked_shown near =
-        body_each a sch l well legal small kept all groups n first line g p claims needs at there h lined placed alone_here Shown
+        body_around a sch l well legal small kept all groups n first line g p claims needs at there h lined placed alone_here Shown
         (λ windows begin last known b h r c not_fetch. absurd (not_fetch tt)) OverGrids NoLet (λ i pick forms bs x y. absurd x)
         (λ ms d w v at_line stands says cs e stores part rest s comes known knows holds before begin last c found_at_c not_fetch nests takes.
         near_shown a sch l well legal small kept all groups n first line g p claims needs at there h lined placed alone_here near d c v at_line found_at_c says cs e part s comes known knows.own
         holds before begin last not_fetch nests (yes d ms w v at_line stands says cs e stores part rest s comes known knows.bound holds c found_at_c nests takes))
-        (subst (LetsFirst NoLet) (sym (shape_of.no_head a sch l well legal small kept all groups n first line g p claims needs at there h lined placed alone_here laid split_alone keeps long ground)) tt)
-        bare_nests refl
+        bare_nests (shape_of.around_is a sch l well legal small kept all groups n first line g p claims needs at there h lined placed alone_here laid split_alone keeps long)
 
     -- the tests of nests say yes to each
     abbrev Yes : List Window → ℕ → ℕ → KnownHere → Statement → ℕ → Type 0
@@ -435,29 +364,19 @@ module _ (a : Algorithm) (sch : Schedule) (l : Lowered) (well : IsAlgorithm a) (
 
     yes_each : EachClaim O R Yes [] (statement_of p.body) (body_line plan n) (start (grid_binders p.grid.items))
     yes_each =
-        body_each a sch l well legal small kept all groups n first line g p claims needs at there h lined placed alone_here Yes
+        body_around a sch l well legal small kept all groups n first line g p claims needs at there h lined placed alone_here Yes
         (λ windows begin last known b h r c not_fetch. absurd (not_fetch tt)) OverGrids NoLet (λ i pick forms bs x y. absurd x)
         (λ ms d w v at_line stands says cs e stores part rest s comes known knows holds before begin last c found_at_c not_fetch nests takes.
         yes d ms w v at_line stands says cs e stores part rest s comes known knows.bound holds c found_at_c nests takes)
-        (subst (LetsFirst NoLet) (sym (shape_of.no_head a sch l well legal small kept all groups n first line g p claims needs at there h lined placed alone_here laid split_alone keeps long ground)) tt)
-        bare_nests refl
-
-  -- by its test
-  none_over : (us : List NestLoop) (cs : List Split) → AreShiftsInside us cs → AllByRecursion (λ c. (is_shifted c && list_any (λ o. is_parallel o && same_name o.name c.outer) us) ≡ false) cs
-  none_over us [] h = tt
-  none_over us (c ∷ cs) h = (of (is_shifted c) h.0, none_over us cs h.1)
-    where
-      of : (v : Bool) → (v ≡ true → list_any (λ o. is_parallel o && same_name o.name c.outer) us ≡ false) → (v && list_any (λ o. is_parallel o && same_name o.name c.outer) us) ≡ false
-      of true q = q refl
-      of false q = refl
+        bare_nests (shape_of.around_is a sch l well legal small kept all groups n first line g p claims needs at there h lined placed alone_here laid split_alone keeps long)
 
   -- the tests of nests say yes to each claim of a nest of such a function
-  pub yes_at : (n : ℕ) (q : CodeGroup) → slice_get made_groups n ≡ Some q → (u : StoredText) → slice_get stored n ≡ Some u → IsTailed u →
+  pub yes_at : (n : ℕ) (q : CodeGroup) → slice_get made_groups n ≡ Some q → (u : StoredText) → slice_get stored n ≡ Some u → IsSplitOnce u →
       EachClaim (outline_of plan cert n (group_of q)) (rules_of a plan cert n)
       (λ kept begin last known s c. (IsFetch s → ⊥) → (nests : Nests) → TakeSplit a plan cert n (group_of q) nests →
       SayYes (outline_of plan cert n (group_of q)) (rules_of a plan cert n) nests known s c)
       [] (group_of q).body (body_line plan n) (start (grid_binders (group_of q).grid))
-  yes_at n q there u at tailed =
+  yes_at n q there u at once_only =
       let me = made_at a sch l well legal small kept all groups n q there in
       let r = alone_body a entries items 0 0 4 stored made_groups items l.certificate.needs.items (groups.bodies all)
       (λ j v e. let none : 0 + j ≡ j = omega arith in ap (slice_get items) none ∙ e) n me.stored q me.is there in
@@ -474,15 +393,15 @@ module _ (a : Algorithm) (sch : Schedule) (l : Lowered) (well : IsAlgorithm a) (
       let laid : IsLaidBy me.stored body.extents body.skeleton =
       subst (λ (k : SkeletonText). IsLaidBy me.stored body.extents k) skeleton (subst (λ (es : List Extent). IsLaidBy me.stored es me.laid.skeleton) extents me.laid_by) in
       let same_stored : u ≡ me.stored = some_same u me.stored (sym at ∙ me.is) in
-      let mine : IsTailed me.stored = subst IsTailed same_stored tailed in
+      let mine : IsSplitOnce me.stored = subst IsSplitOnce same_stored once_only in
       let long : AllByRecursion (λ c. is_too_short (loop_numbers me.stored.subject.variables me.stored.placed.cuts body.extents) c ≡ false) me.stored.placed.cuts =
       subst (λ (es : List Extent). AllByRecursion (λ c. is_too_short (loop_numbers me.stored.subject.variables me.stored.placed.cuts es) c ≡ false) me.stored.placed.cuts) extents
       (long_shifts a sch kept n me.stored me.laid me.is me.found) in
-      yes_each n b.first_claim b.line me.stored q b.claims b.needs me.is there body begins b.numbered own laid mine.once mine.inners long (none_over me.stored.placed.loops me.stored.placed.cuts mine.inside)
+      yes_each n b.first_claim b.line me.stored q b.claims b.needs me.is there body begins b.numbered own laid mine.once mine.inners long
 
   module _ (near : AreClaimsNear cert) where
-    blocked_at : (n : ℕ) (q : CodeGroup) → slice_get made_groups n ≡ Some q → (u : StoredText) → slice_get stored n ≡ Some u → IsTailed u → BlockedClaimsShown a plan cert n (group_of q)
-    blocked_at n q there u at tailed =
+    blocked_at : (n : ℕ) (q : CodeGroup) → slice_get made_groups n ≡ Some q → (u : StoredText) → slice_get stored n ≡ Some u → IsSplitOnce u → BlockedClaimsShown a plan cert n (group_of q)
+    blocked_at n q there u at once_only =
         let me = made_at a sch l well legal small kept all groups n q there in
         let r = alone_body a entries items 0 0 4 stored made_groups items l.certificate.needs.items (groups.bodies all)
         (λ j v e. let none : 0 + j ≡ j = omega arith in ap (slice_get items) none ∙ e) n me.stored q me.is there in
@@ -499,14 +418,14 @@ module _ (a : Algorithm) (sch : Schedule) (l : Lowered) (well : IsAlgorithm a) (
         let laid : IsLaidBy me.stored body.extents body.skeleton =
         subst (λ (k : SkeletonText). IsLaidBy me.stored body.extents k) skeleton (subst (λ (es : List Extent). IsLaidBy me.stored es me.laid.skeleton) extents me.laid_by) in
         let same_stored : u ≡ me.stored = some_same u me.stored (sym at ∙ me.is) in
-        let mine : IsTailed me.stored = subst IsTailed same_stored tailed in
+        let mine : IsSplitOnce me.stored = subst IsSplitOnce same_stored once_only in
         let long : AllByRecursion (λ c. is_too_short (loop_numbers me.stored.subject.variables me.stored.placed.cuts body.extents) c ≡ false) me.stored.placed.cuts =
         subst (λ (es : List Extent). AllByRecursion (λ c. is_too_short (loop_numbers me.stored.subject.variables me.stored.placed.cuts es) c ≡ false) me.stored.placed.cuts) extents
         (long_shifts a sch kept n me.stored me.laid me.is me.found) in
-        blocked_shown n b.first_claim b.line me.stored q b.claims b.needs me.is there body begins b.numbered own laid mine.once mine.inners long (none_over me.stored.placed.loops me.stored.placed.cuts mine.inside) near
+        blocked_shown n b.first_claim b.line me.stored q b.claims b.needs me.is there body begins b.numbered own laid mine.once mine.inners long near
 
 pub shown : BlockedClaimsOweShown
-shown a s l well legal small regions groups all near n g at u there tailed =
+shown a s l well legal small regions groups all near n g at u there once_only =
     let x = from_map group_of l.plan.groups.items n g at in
     subst (λ (v : Group). BlockedClaimsShown a (plan_of l.plan) (certificate_of l.certificate) n v) (sym x.2)
-    (blocked_at a s l well legal small (regions all).0 all groups near n x.0 x.1 u there tailed)
+    (blocked_at a s l well legal small (regions all).0 all groups near n x.0 x.1 u there once_only)

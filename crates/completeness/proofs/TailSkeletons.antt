@@ -34,9 +34,33 @@ use Rattle.completeness.proofs.PlainTurns.{hits}
 use Rattle.completeness.proofs.PureNests.{loop_name}
 use Rattle.completeness.proofs.BlockTurns.{grid_named}
 use Rattle.completeness.proofs.TailSteps.{is_loop}
+use Rattle.std.specs.Prelude.{if◌then◌else◌}
+use Rattle.std.specs.List.{find}
+use Rattle.std.specs.Option.{option_map}
+use Rattle.meaning.specs.Names.{same_name}
+use Rattle.soundness.proofs.Refines.{name_refl}
 use Rattle.completeness.proofs.TailTurns.{is_shifted, Entry, entry_steps, Extends, length_more, Opens, opened, unjoined, AreRight, IsStart, Right, start_right, IsEntry, IsTurned, turned, Woven}
 
 -- ---- over the grid
+
+form_more : (ks more : List Known) (y : List ℕ) (f : Form) → form_named ks y ≡ Some f → form_named (ks ++ more) y ≡ Some f
+form_more [] more y f e = absurd (cc e)
+form_more (k ∷ ks) more y f e = of (same_name k.name y) e (form_more ks more y f)
+  where
+    of : (b : Bool) → option_map (λ k. k.form) (if b then Some k else find (λ k. same_name k.name y) ks) ≡ Some f → (form_named ks y ≡ Some f → form_named (ks ++ more) y ≡ Some f) →
+        option_map (λ k. k.form) (if b then Some k else find (λ k. same_name k.name y) (ks ++ more)) ≡ Some f
+    of true q rest = q
+    of false q rest = rest q
+
+form_last : (ks : List Known) (y : List ℕ) (f : Form) → form_named ks y ≡ None → form_named (ks ++ record { name = y; form = f } ∷ []) y ≡ Some f
+form_last [] y f e = ap (λ (b : Bool). option_map (λ (k : Known). k.form) (if b then Some (record { name = y; form = f }) else None)) (name_refl y)
+form_last (k ∷ ks) y f e = of (same_name k.name y) e (form_last ks y f)
+  where
+    of : (b : Bool) → option_map (λ k. k.form) (if b then Some k else find (λ k. same_name k.name y) ks) ≡ None →
+        (form_named ks y ≡ None → form_named (ks ++ record { name = y; form = f } ∷ []) y ≡ Some f) →
+        option_map (λ k. k.form) (if b then Some k else find (λ k. same_name k.name y) (ks ++ record { name = y; form = f } ∷ [])) ≡ Some f
+    of true q rest = absurd (cc q)
+    of false q rest = rest q
 
 module _ (cuts : List Split) (others : AreOthers cuts) (once : AreOnce cuts) (rs : List Numbers) (grid : List Known) (base : ℕ) where
   -- the let of a shifted block whose outer loop is over the grid
@@ -50,6 +74,13 @@ module _ (cuts : List Split) (others : AreOthers cuts) (once : AreOnce cuts) (rs
     pub begins : combined (number (numbers_named rs split.whole).low) (pos split.factor) outer ≡ Some form
     pub is : step ≡ Named s Min (form ∷ number (room (numbers_named rs split.whole) split.factor) ∷ [])
 
+  -- and its symbol is the first number of the split's block
+  abbrev pub IsFirst : List Known → ℕ → Step → Type 0
+  IsFirst starts j step = (r : IsHead (base + j) step) × (form_named starts r.split.whole ≡ Some (alone (base + j)))
+
+  first_more : (starts more : List Known) (j : ℕ) (step : Step) → IsFirst starts j step → IsFirst (starts ++ more) j step
+  first_more starts more j step (r, e) = (r, form_more starts more r.split.whole (alone (base + j)) e)
+
   -- the second begin with the first
   abbrev Leads : List Step → List Step → Type 0
   Leads ss head = (j : ℕ) (step : Step) → slice_get ss j ≡ Some step → slice_get head j ≡ Some step
@@ -62,7 +93,7 @@ module _ (cuts : List Split) (others : AreOthers cuts) (once : AreOnce cuts) (rs
     next : st.next ≡ base + length st.steps
     known : st.known ≡ grid
     right : RightFor st
-    heads : (j : ℕ) (step : Step) → slice_get st.steps j ≡ Some step → IsHead (base + j) step
+    heads : (j : ℕ) (step : Step) → slice_get st.steps j ≡ Some step → IsFirst st.starts j step
 
   opens_so : (c : Split) → In c cuts → (st new : StandingText) → IsSo st → (new ≡ st) ⊎ Opens c (numbers_named rs c.whole) st new → IsSo new × ((y : List ℕ) → Stands st.starts y → Stands new.starts y)
   opens_so c mc st new h (inl e) = (subst IsSo (sym e) h, (λ y k. subst (λ (a : StandingText). Stands a.starts y) (sym e) k))
@@ -83,7 +114,7 @@ module _ (cuts : List Split) (others : AreOthers cuts) (once : AreOnce cuts) (rs
             known = g.known;
             starts = start_right cuts others once rs grid base head n es c mc st g o.outer o.form o.form o.known o.sum (inl (e, refl));
           });
-          heads = h.heads;
+          heads = λ j one at. first_more st.starts (record { name = c.whole; form = o.form } ∷ []) j one (h.heads j one at);
         },
         (λ y k. stands_more st.starts (record { name = c.whole; form = o.form }) y k),
       )
@@ -109,21 +140,24 @@ module _ (cuts : List Split) (others : AreOthers cuts) (once : AreOnce cuts) (rs
           last_there : slice_get (st.steps ++ step ∷ []) (length st.steps) ≡ Some step
           last_there = (let none : length st.steps ≡ length st.steps + 0 = omega arith in at_right st.steps (step ∷ []) (length st.steps) 0 none)
 
-          by : (j : ℕ) (one : Step) → (slice_get st.steps j ≡ Some one) ⊎ ((k : ℕ) × (j ≡ length st.steps + k) × (slice_get (step ∷ []) k ≡ Some one)) → IsHead (base + j) one
-          by j one (inl k) = h.heads j one k
+          by : (j : ℕ) (one : Step) → (slice_get st.steps j ≡ Some one) ⊎ ((k : ℕ) × (j ≡ length st.steps + k) × (slice_get (step ∷ []) k ≡ Some one)) →
+              IsFirst (st.starts ++ record { name = c.whole; form = alone st.next } ∷ []) j one
+          by j one (inl k) = first_more st.starts (record { name = c.whole; form = alone st.next } ∷ []) j one (h.heads j one k)
           by j one (inr (zero, place, k)) =
               let is : step ≡ one = cc k in
-              let so : st.next ≡ base + j = (let next = h.next in omega (arith, place, next)) in
-              record {
-                split = c;
-                among = mc;
-                shifted = e;
-                outer = o.outer;
-                by_outer = ap (λ (ks : List Known). form_named ks c.outer) (sym h.known) ∙ o.known;
-                form = o.form;
-                begins = o.sum;
-                is = sym is ∙ (λ i. Named (so i) Min (o.form ∷ number (room r c.factor) ∷ []));
-              }
+              let so : st.next ≡ base + j = (let next = h.next in omega (arith, place, next)) in (
+                record {
+                  split = c;
+                  among = mc;
+                  shifted = e;
+                  outer = o.outer;
+                  by_outer = ap (λ (ks : List Known). form_named ks c.outer) (sym h.known) ∙ o.known;
+                  form = o.form;
+                  begins = o.sum;
+                  is = sym is ∙ (λ i. Named (so i) Min (o.form ∷ number (room r c.factor) ∷ []));
+                },
+                form_last st.starts c.whole (alone st.next) o.none ∙ ap (λ (m : ℕ). Some (alone m)) so,
+              )
           by j one (inr (suc k, place, q)) = absurd (cc q)
 
       of : (tail : Tail) → c.tail ≡ tail → new ≡ begin_at tail c.whole o.form (room r c.factor) st → Made new
@@ -353,6 +387,8 @@ pub record AreTails (xs : List (List ℕ)) (bs : List BodyText) (p : PlacedText)
   pub known : k.known ≡ grid_forms rs 0 (parallel_loops p.loops)
   pub heads : (j : ℕ) (step : Step) → slice_get k.head j ≡ Some step →
       IsHead p.cuts others once rs (grid_forms rs 0 (parallel_loops p.loops)) (length (piece_counts rs p.loops)) (length (piece_counts rs p.loops) + j) step
+  pub firsts : (j : ℕ) (step : Step) → slice_get k.head j ≡ Some step →
+      IsFirst p.cuts others once rs (grid_forms rs 0 (parallel_loops p.loops)) (length (piece_counts rs p.loops)) k.starts j step
   pub starts : (n : ℕ) (es : List Entry) → AllByRecursion
       (λ s. IsStart p.cuts others once rs (grid_forms rs 0 (parallel_loops p.loops)) (length (piece_counts rs p.loops)) k.head n es s.name s.form) k.starts
   pub begun : AllByRecursion (λ c. Stands (grid_forms rs 0 (parallel_loops p.loops)) c.outer → Stands k.starts c.whole) (cuts_by_variable p.cuts xs)
@@ -394,7 +430,8 @@ skeleton_tails xs bs p region k others once single none some distinct outers nam
     subst (AreTails xs bs p others once rs) (same (record { grid = grid; head = b.value.steps; nests = m.value; known = b.value.known; starts = b.value.starts }) k m.comes) (record {
       grid = refl;
       known = so.known;
-      heads = so.heads;
+      heads = λ j step at. (so.heads j step at).0;
+      firsts = so.heads;
       starts = λ n es. (right n es).starts;
       begun = first.2;
       nests = λ d w at. (let same_place : 0 + d ≡ d = omega arith in

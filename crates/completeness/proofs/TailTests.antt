@@ -1,13 +1,15 @@
 -- The tests that a nest makes its claim, and does an update's steps in turn, of loops, lets and guards, where what each coordinate comes to is what the claim asks of it.
-use Rattle.std.proofs.Common.{◌≡◌, ℕ, suc, ◌+◌, ◌≤◌, Bool, true, false, ◌&&◌, ◌||◌, not, List, [], ◌∷◌, ◌++◌, length, map, Some, refl, sym, ap, ◌∙◌, subst, inl, inr, arith}
+use Rattle.std.proofs.Common.{◌≡◌, ℕ, suc, ◌+◌, ◌<◌, ◌≤◌, Bool, true, false, ◌&&◌, ◌||◌, not, List, [], ◌∷◌, ◌++◌, length, map, Some, refl, sym, ap, ◌∙◌, subst, inl, inr, arith}
 use Rattle.std.specs.Prelude.{ℤ, ◌==◌, slice_get, if◌then◌else◌}
 use Rattle.std.specs.List.{AllByRecursion, list_any, list_all}
 use Rattle.lin.specs.Forms.{Form}
+use Rattle.lin.specs.declared.form.Multiple.{Multiple}
 use Rattle.lin.specs.declared.span.Span1.{Span1}
 use Rattle.plan.specs.declared.stmt.Places.{Places}
+use Rattle.plan.specs.declared.stmt.Pick.TheVariants.{Min}
 use Rattle.plan.specs.Plan.{Coordinate}
 use Rattle.meaning.specs.Names.{same_name}
-use Rattle.soundness.specs.Obligations.{Binder, Ranged, Rules, exactly, form_has}
+use Rattle.soundness.specs.Obligations.{Binder, Ranged, Picked, Rules, exactly, form_has}
 use Rattle.soundness.specs.Shown.{is_within, are_within, is_seated, are_seated}
 use Rattle.soundness.specs.Binders.View.{grid_span, grid_from}
 use Rattle.soundness.specs.Nests.Nest.{is_symbol}
@@ -21,6 +23,8 @@ use Rattle.tails.specs.Apart.{is_apart, is_steady}
 use Rattle.tails.specs.Stored.{has_places}
 use Rattle.tails.specs.Updates.{reducing, pure_steps}
 use Rattle.completeness.proofs.PlainTurns.{one_if, hits, itself}
+use Rattle.completeness.proofs.SplitTests.{IsBelow}
+use Rattle.completeness.proofs.HeadSeats.{HeadLet, forms_of, around_from}
 use Rattle.completeness.proofs.LoopMoves.{Item, is_left}
 use Rattle.completeness.proofs.BlockKept.{kept_back, kept_apart, kept_there, left_out, out_free, out_outer, is_kept}
 use Rattle.completeness.proofs.TailSteps.{Line, Loop, Block, Pair, is_loop}
@@ -111,42 +115,63 @@ module _ (factor : ℕ → ℤ) (n : ℕ) (ts : List Turning) (owner : ℕ → L
 
 -- ---- places
 
-module _ (factor : ℕ → ℤ) (n : ℕ) (ts : List Turning) (owner : ℕ → List ℕ) (line : ℕ → Line) (lim tops : ℕ → List Form) (rules : Rules) (counts : List ℕ) (few : length counts ≤ n)
-    (place : List ℕ → Places) where
-  abbrev around : List Binder
-  around = grid_from 0 counts
+all_joined : {A : Type 0} (f : A → Bool) (xs ys : List A) → list_all f xs ≡ true → list_all f ys ≡ true → list_all f (xs ++ ys) ≡ true
+all_joined f [] ys h k = k
+all_joined f (x ∷ xs) ys h k = of (f x) h (λ q. all_joined f xs ys q k)
+  where
+    of : (b : Bool) → (b && list_all f xs) ≡ true → (list_all f xs ≡ true → list_all f (xs ++ ys) ≡ true) → (b && list_all f (xs ++ ys)) ≡ true
+    of true q rest = rest q
+    of false q rest = absurd (cc q)
 
-  abbrev walked : List Step
-  walked = lines_of line lim n ts
+-- what stands around a nest has none of its symbols: the grid, and the lets of the group's head
+module _ (line : ℕ → Line) (lim : ℕ → List Form) (n : ℕ) (ts : List Turning) where
+  abbrev around_steps : List Step
+  around_steps = lines_of line lim n ts
 
-  all_joined : {A : Type 0} (f : A → Bool) (xs ys : List A) → list_all f xs ≡ true → list_all f ys ≡ true → list_all f (xs ++ ys) ≡ true
-  all_joined f [] ys h k = k
-  all_joined f (x ∷ xs) ys h k = of (f x) h (λ q. all_joined f xs ys q k)
-    where
-      of : (b : Bool) → (b && list_all f xs) ≡ true → (list_all f xs ≡ true → list_all f (xs ++ ys) ≡ true) → (b && list_all f (xs ++ ys)) ≡ true
-      of true q rest = rest q
-      of false q rest = absurd (cc q)
-
-  grid_apart : (i : ℕ) (ns : List ℕ) → i + length ns ≤ n → list_all (is_apart (along walked)) (grid_from i ns) ≡ true
+  grid_apart : (i : ℕ) (ns : List ℕ) → i + length ns ≤ n → list_all (is_apart (along around_steps)) (grid_from i ns) ≡ true
   grid_apart i [] less = refl
   grid_apart i (m ∷ ns) less =
       let none = none_along line lim i n ts (omega (arith, less)) in
-      let here : list_all (is_apart (along walked)) (Ranged i (grid_span m) ∷ []) ≡ true = λ j. (not (none j) && true) && true in
-      all_joined (is_apart (along walked)) (grid_from (i + 1) ns) (Ranged i (grid_span m) ∷ []) (grid_apart (i + 1) ns (omega (arith, less))) here
+      let here : list_all (is_apart (along around_steps)) (Ranged i (grid_span m) ∷ []) ≡ true = λ j. (not (none j) && true) && true in
+      all_joined (is_apart (along around_steps)) (grid_from (i + 1) ns) (Ranged i (grid_span m) ∷ []) (grid_apart (i + 1) ns (omega (arith, less))) here
+
+  below_outer : (f : Form) → IsBelow n f → is_outer (along around_steps) f ≡ true
+  below_outer f below = of f.terms below
+    where
+      of : (us : List Multiple) → AllByRecursion (λ t. t.symbol < n) us → list_all (λ t. not (list_any (binds t.symbol) (along around_steps))) us ≡ true
+      of [] h = refl
+      of (u ∷ us) h = (let none = none_along line lim u.symbol n ts h.0 in let rest = of us h.1 in λ j. not (none j) && rest j)
+
+  lets_apart : (i : ℕ) (lets : List HeadLet) (bs : List Binder) → i + length lets ≤ n → AllByRecursion (λ l. IsBelow n l.form) lets → list_all (is_apart (along around_steps)) bs ≡ true →
+      list_all (is_apart (along around_steps)) (around_from i lets bs) ≡ true
+  lets_apart i [] bs less low h = h
+  lets_apart i (l ∷ lets) bs less low h =
+      let none = none_along line lim i n ts (omega (arith, less)) in
+      let outer = below_outer l.form low.0 in
+      lets_apart (i + 1) lets (Picked i Min (forms_of l) ∷ bs) (omega (arith, less)) low.1 (λ j. (not (none j) && (outer j && true)) && h j)
+
+  pub around_apart : (counts : List ℕ) (lets : List HeadLet) → length counts + length lets ≤ n → AllByRecursion (λ l. IsBelow n l.form) lets →
+      list_all (is_apart (along (lines_of line lim n ts))) (around_from (length counts) lets (grid_from 0 counts)) ≡ true
+  around_apart counts lets less low =
+      lets_apart (length counts) lets (grid_from 0 counts) less low (grid_apart 0 counts (omega (arith, less)))
+
+module _ (factor : ℕ → ℤ) (n : ℕ) (ts : List Turning) (owner : ℕ → List ℕ) (line : ℕ → Line) (lim tops : ℕ → List Form) (rules : Rules) (around : List Binder) (place : List ℕ → Places) where
+  abbrev walked : List Step
+  walked = lines_of line lim n ts
 
   -- the place of each number of the coordinate is the same at all turns, and its places hold all
   pub record IsPlaced (x : List ℕ) (f : Form) : Type 0 where
     pub steady : is_steady false (along (lines_of line lim n ts)) (place x) ≡ true
-    pub seated : is_seated rules (along (lines_of line lim n ts) ++ grid_from 0 counts) (exactly f) (place x) ≡ true
+    pub seated : is_seated rules (along (lines_of line lim n ts) ++ around) (exactly f) (place x) ≡ true
 
   abbrev pub IsPlacedSum : (x : List ℕ) → IsSum factor n ts owner line lim tops always x → Type 0
   IsPlacedSum x k = IsPlaced x (begin_of (course factor n ts owner line lim tops always x k))
 
-  pub places_there : (xs : List (List ℕ)) (ks : AreSums factor n ts owner line lim tops always xs) → Each factor n ts owner line lim tops always IsPlacedSum xs ks →
+  pub places_there : list_all (is_apart (along (lines_of line lim n ts))) around ≡ true → (xs : List (List ℕ)) (ks : AreSums factor n ts owner line lim tops always xs) →
+      Each factor n ts owner line lim tops always IsPlacedSum xs ks →
       has_places false rules around (record { steps = walked; forms = sum_forms factor n ts owner line lim tops always xs ks }) (map place xs) ≡ true
-  places_there xs ks h =
-      let small : 0 + length counts ≤ n = omega (arith, few) in
-      let one = grid_apart 0 counts small in
+  places_there apart xs ks h =
+      let one = apart in
       let two = steady_all xs ks h in
       let three = seated_all xs ks h in
       λ j. (one j && two j) && three j

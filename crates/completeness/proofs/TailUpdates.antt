@@ -23,7 +23,6 @@ use Rattle.soundness.specs.Claims.{In}
 use Rattle.soundness.specs.Origins.{Outline}
 use Rattle.soundness.specs.Given.{outline_of}
 use Rattle.soundness.specs.Obligations.{Binder, Rules}
-use Rattle.soundness.specs.Binders.View.{grid_binders}
 use Rattle.soundness.specs.Nests.Laws.{domains_of}
 use Rattle.soundness.specs.Nests.Tests.{left_of, over_of}
 use Rattle.soundness.proofs.Refines.{name_true}
@@ -36,7 +35,6 @@ use Rattle.sched.specs.declared.numbers.Numbers.{Numbers}
 use Rattle.sched.specs.declared.skeleton.Known.{Known}
 use Rattle.sched.specs.declared.nest.Turning.{Turning}
 use Rattle.sched.specs.Numbers.{numbers_named, last_number, loop_numbers, parallel_loops, piece_counts}
-use Rattle.sched.specs.Placing.{is_parallel}
 use Rattle.sched.specs.Standing.{form_named}
 use Rattle.sched.specs.Skeleton.{BodyText, NestText, SkeletonText, nest_turns, variables_at, ranges_at, grid_forms, kept_from}
 use Rattle.tails.specs.Maps.{covers}
@@ -143,8 +141,7 @@ module _ (a : Algorithm) (sch : Schedule) (l : Lowered) (well : IsAlgorithm a) (
       (placed : (j : ℕ) (v : CodeClaim) → slice_get claims j ≡ Some v → slice_get items (first + j) ≡ Some v)
       (alone_here : (j : ℕ) (w : CodeClaim) → slice_get items j ≡ Some w → line < w.line → w.line < line + (lines (statement_of p.body) + 1) → In w claims)
       (laid : IsLaidBy g h.extents h.skeleton) (split_alone : AreSplitOnce g.placed.cuts) (keeps : KeepsInner g.placed.loops g.placed.cuts)
-      (long : AllByRecursion (λ c. is_too_short (loop_numbers g.subject.variables g.placed.cuts h.extents) c ≡ false) g.placed.cuts)
-      (ground : AllByRecursion (λ c. (is_shifted c && list_any (λ o. is_parallel o && same_name o.name c.outer) g.placed.loops) ≡ false) g.placed.cuts) where
+      (long : AllByRecursion (λ c. is_too_short (loop_numbers g.subject.variables g.placed.cuts h.extents) c ≡ false) g.placed.cuts) where
     abbrev pub k : SkeletonText
     k = h.skeleton
 
@@ -200,56 +197,60 @@ module _ (a : Algorithm) (sch : Schedule) (l : Lowered) (well : IsAlgorithm a) (
     place x = (dimension_of lay cuts x).places
 
     abbrev pub others : AreOthers cuts
-    others = shape_of.others a sch l well legal small kept all groups n first line g p claims needs at there h lined placed alone_here laid split_alone keeps long ground
+    others = shape_of.others a sch l well legal small kept all groups n first line g p claims needs at there h lined placed alone_here laid split_alone keeps long
 
     abbrev pub once : AreOnce cuts
-    once = shape_of.once a sch l well legal small kept all groups n first line g p claims needs at there h lined placed alone_here laid split_alone keeps long ground
+    once = shape_of.once a sch l well legal small kept all groups n first line g p claims needs at there h lined placed alone_here laid split_alone keeps long
 
     abbrev pub halves : (c : Split) → In c cuts → (x : List ℕ) → In x xs → (x ≡ c.outer → ⊥) × (x ≡ c.inner → ⊥)
-    halves = shape_of.halves a sch l well legal small kept all groups n first line g p claims needs at there h lined placed alone_here laid split_alone keeps long ground
+    halves = shape_of.halves a sch l well legal small kept all groups n first line g p claims needs at there h lined placed alone_here laid split_alone keeps long
 
     abbrev pub outers : (c d : Split) → In c cuts → In d cuts → c.outer ≡ d.outer → c ≡ d
-    outers = shape_of.outers a sch l well legal small kept all groups n first line g p claims needs at there h lined placed alone_here laid split_alone keeps long ground
+    outers = shape_of.outers a sch l well legal small kept all groups n first line g p claims needs at there h lined placed alone_here laid split_alone keeps long
 
     abbrev pub gone : (c : Split) → In c cuts → (o : NestLoop) → In o ls → c.whole ≡ o.name → ⊥
-    gone = shape_of.gone a sch l well legal small kept all groups n first line g p claims needs at there h lined placed alone_here laid split_alone keeps long ground
+    gone = shape_of.gone a sch l well legal small kept all groups n first line g p claims needs at there h lined placed alone_here laid split_alone keeps long
 
     abbrev pub wholes : (c : Split) → In c cuts → In c.whole xs
-    wholes = shape_of.wholes a sch l well legal small kept all groups n first line g p claims needs at there h lined placed alone_here laid split_alone keeps long ground
+    wholes = shape_of.wholes a sch l well legal small kept all groups n first line g p claims needs at there h lined placed alone_here laid split_alone keeps long
 
     abbrev pub fits : (c : Split) → In c cuts → CutFits rs c
-    fits = shape_of.fits a sch l well legal small kept all groups n first line g p claims needs at there h lined placed alone_here laid split_alone keeps long ground
+    fits = shape_of.fits a sch l well legal small kept all groups n first line g p claims needs at there h lined placed alone_here laid split_alone keeps long
 
     abbrev pub single : (y : List ℕ) → hits loop_name y ls ≤ 1
-    single = shape_of.single a sch l well legal small kept all groups n first line g p claims needs at there h lined placed alone_here laid split_alone keeps long ground
+    single = shape_of.single a sch l well legal small kept all groups n first line g p claims needs at there h lined placed alone_here laid split_alone keeps long
 
     abbrev pub inners : (c : Split) → In c cuts → form_named grid c.inner ≡ None
-    inners = shape_of.inners a sch l well legal small kept all groups n first line g p claims needs at there h lined placed alone_here laid split_alone keeps long ground
+    inners = shape_of.inners a sch l well legal small kept all groups n first line g p claims needs at there h lined placed alone_here laid split_alone keeps long
 
     abbrev pub leaf_of : (o : NestLoop) → In o ls → LeafOf xs ls cuts rs others once halves outers gone o.name
-    leaf_of = shape_of.leaf_of a sch l well legal small kept all groups n first line g p claims needs at there h lined placed alone_here laid split_alone keeps long ground
+    leaf_of = shape_of.leaf_of a sch l well legal small kept all groups n first line g p claims needs at there h lined placed alone_here laid split_alone keeps long
 
     abbrev pub shape : AreTails xs bs g.placed others once rs k
-    shape = shape_of.shape a sch l well legal small kept all groups n first line g p claims needs at there h lined placed alone_here laid split_alone keeps long ground
+    shape = shape_of.shape a sch l well legal small kept all groups n first line g p claims needs at there h lined placed alone_here laid split_alone keeps long
 
     abbrev pub NumbersFit : List ℕ → Type 0
-    NumbersFit = shape_of.NumbersFit a sch l well legal small kept all groups n first line g p claims needs at there h lined placed alone_here laid split_alone keeps long ground
+    NumbersFit = shape_of.NumbersFit a sch l well legal small kept all groups n first line g p claims needs at there h lined placed alone_here laid split_alone keeps long
 
     abbrev pub fit_of : (x : List ℕ) → In x xs → NumbersFit x
-    fit_of = shape_of.fit_of a sch l well legal small kept all groups n first line g p claims needs at there h lined placed alone_here laid split_alone keeps long ground
+    fit_of = shape_of.fit_of a sch l well legal small kept all groups n first line g p claims needs at there h lined placed alone_here laid split_alone keeps long
 
     abbrev pub sized : (c : Split) → In c cuts → IsSmall (num c.whole) × (0 < (num c.whole).count)
-    sized = shape_of.sized a sch l well legal small kept all groups n first line g p claims needs at there h lined placed alone_here laid split_alone keeps long ground
+    sized = shape_of.sized a sch l well legal small kept all groups n first line g p claims needs at there h lined placed alone_here laid split_alone keeps long
 
     abbrev pub shorts : AllByRecursion IsShort k.grid
-    shorts = shape_of.shorts a sch l well legal small kept all groups n first line g p claims needs at there h lined placed alone_here laid split_alone keeps long ground
+    shorts = shape_of.shorts a sch l well legal small kept all groups n first line g p claims needs at there h lined placed alone_here laid split_alone keeps long
 
     abbrev pub near_named : (y : List ℕ) → LeafOf xs ls cuts rs others once halves outers gone y → (unsigned_abs (low y) ≤ 2 ^ 36) × (unsigned_abs (last y) ≤ 2 ^ 36)
-    near_named = shape_of.near_named a sch l well legal small kept all groups n first line g p claims needs at there h lined placed alone_here laid split_alone keeps long ground
+    near_named = shape_of.near_named a sch l well legal small kept all groups n first line g p claims needs at there h lined placed alone_here laid split_alone keeps long
 
     abbrev pub loop_leaf : (o : NestLoop) → In o ls → (x : List ℕ) × (slice_get xs o.dimension ≡ Some x) × ((x ≡ o.name) ⊎ ((c : Split) × In c cuts × (c.whole ≡ x) × ((o.name ≡ c.outer) ⊎
         (o.name ≡ c.inner))))
-    loop_leaf = shape_of.loop_leaf a sch l well legal small kept all groups n first line g p claims needs at there h lined placed alone_here laid split_alone keeps long ground
+    loop_leaf = shape_of.loop_leaf a sch l well legal small kept all groups n first line g p claims needs at there h lined placed alone_here laid split_alone keeps long
+
+    -- what is bound around a nest
+    abbrev around : List Binder
+    around = shape_of.around a sch l well legal small kept all groups n first line g p claims needs at there h lined placed alone_here laid split_alone keeps long
 
     -- ---- an update's nest
 
@@ -272,28 +273,28 @@ module _ (a : Algorithm) (sch : Schedule) (l : Lowered) (well : IsAlgorithm a) (
       us = nest_turns b rs ls
 
       abbrev ts : List Turning
-      ts = nest_of.ts a sch l well legal small kept all groups n first line g p claims needs at there h lined placed alone_here laid split_alone keeps long ground (suc i) w stands ds
+      ts = nest_of.ts a sch l well legal small kept all groups n first line g p claims needs at there h lined placed alone_here laid split_alone keeps long (suc i) w stands ds
           reduced distinct within ranged always (λ j e at_j k. refl)
 
       abbrev kinds : ℕ → Line
-      kinds = nest_of.kinds a sch l well legal small kept all groups n first line g p claims needs at there h lined placed alone_here laid split_alone keeps long ground (suc i) w stands ds
+      kinds = nest_of.kinds a sch l well legal small kept all groups n first line g p claims needs at there h lined placed alone_here laid split_alone keeps long (suc i) w stands ds
           reduced distinct within ranged always (λ j e at_j k. refl)
 
       abbrev lim : ℕ → List Form
-      lim = nest_of.lim a sch l well legal small kept all groups n first line g p claims needs at there h lined placed alone_here laid split_alone keeps long ground (suc i) w stands ds
+      lim = nest_of.lim a sch l well legal small kept all groups n first line g p claims needs at there h lined placed alone_here laid split_alone keeps long (suc i) w stands ds
           reduced distinct within ranged always (λ j e at_j k. refl)
 
       abbrev kept_names : List (List ℕ)
       kept_names = kept_from b 0 xs
 
       turns_alone : (y : List ℕ) → hits turn_name y ts ≤ 1
-      turns_alone = nest_of.turns_alone a sch l well legal small kept all groups n first line g p claims needs at there h lined placed alone_here laid split_alone keeps long ground (suc i)
+      turns_alone = nest_of.turns_alone a sch l well legal small kept all groups n first line g p claims needs at there h lined placed alone_here laid split_alone keeps long (suc i)
           w stands ds reduced distinct within ranged always (λ j e at_j k. refl)
 
       part : (j : ℕ) (t : Turning) → slice_get ts j ≡ Some t → is_loop (kinds (m0 + j)) ≡ true → IsLoopTurn b rs ls ds ranged t ⊎ IsRangeTurn b rs ls ds ranged t
       part j t at_j loop = (let r = nest_of.turn_at a sch l well legal small kept all groups n first line g p claims needs at there h lined placed alone_here laid split_alone keeps long
-          ground (suc i) w stands ds reduced distinct within ranged always (λ j e at_j k. refl) j t at_j loop in shape_of.part a sch l well legal small kept all groups n first line g p
-          claims needs at there h lined placed alone_here laid split_alone keeps long ground b ds reduced distinct within ranged r.0 t r.1)
+          (suc i) w stands ds reduced distinct within ranged always (λ j e at_j k. refl) j t at_j loop in shape_of.part a sch l well legal small kept all groups n first line g p
+          claims needs at there h lined placed alone_here laid split_alone keeps long b ds reduced distinct within ranged r.0 t r.1)
 
       only : (v : Line) → is_loop v ≡ true → v ≡ Loop
       only Loop e = refl
@@ -313,7 +314,7 @@ module _ (a : Algorithm) (sch : Schedule) (l : Lowered) (well : IsAlgorithm a) (
               let loop : kinds (m0 + j) ≡ Loop = ap (λ (o : Option Entry). elim o [ Some v ↦ v.line | None ↦ Loop ]) (ap (slice_get es) place ∙ none) in
               let clash : Loop ≡ Block f z = sym loop ∙ e in
               cc clash
-          of (Some v) there_v = by (nest_of.lets a sch l well legal small kept all groups n first line g p claims needs at there h lined placed alone_here laid split_alone keeps long ground
+          of (Some v) there_v = by (nest_of.lets a sch l well legal small kept all groups n first line g p claims needs at there h lined placed alone_here laid split_alone keeps long
               (suc i) w stands ds reduced distinct within ranged always (λ j e at_j k. refl) j v.turning (at_map (λ (e : Entry). e.turning) es j v there_v) (ap is_loop e))
             where
               by : (r : IsLetOf xs ls cuts rs others once halves outers gone m0 ts kinds j v.turning)
@@ -361,7 +362,7 @@ module _ (a : Algorithm) (sch : Schedule) (l : Lowered) (well : IsAlgorithm a) (
             let are : AreCoordinates ms rest.0 (ranges_at (map range_turning ds) q.known) rest.1 over =
             subst (λ (m : ℕ). AreCoordinates ms rest.0 (ranges_at (map range_turning ds) q.known) rest.1 (drop m cs)) here_vs
             (subst (λ (rs' : List Turning). AreCoordinates ms rest.0 (ranges_at rs' q.known) rest.1 (drop (length vs) cs)) ranged rest.2) in
-            nest_of.reads_over a sch l well legal small kept all groups n first line g p claims needs at there h lined placed alone_here laid split_alone keeps long ground (suc i) w stands
+            nest_of.reads_over a sch l well legal small kept all groups n first line g p claims needs at there h lined placed alone_here laid split_alone keeps long (suc i) w stands
             ds reduced distinct within ranged always (λ j e at_j k. refl) ms ds (λ e m. m) rest.0 rest.1 over are
 
         abbrev keep : ℕ → Bool
@@ -376,14 +377,14 @@ module _ (a : Algorithm) (sch : Schedule) (l : Lowered) (well : IsAlgorithm a) (
             of : (m : ℕ) → hits itself y (range_names ds) ≡ m → hits itself y (range_names ds) ≡ 0
             of zero r = r
             of (suc m) r =
-                let none = shape_of.ranges_away a sch l well legal small kept all groups n first line g p claims needs at there h lined placed alone_here laid split_alone keeps long ground
+                let none = shape_of.ranges_away a sch l well legal small kept all groups n first line g p claims needs at there h lined placed alone_here laid split_alone keeps long
                 b ds reduced distinct within ranged y (omega (arith, r)) in
                 let some : 1 ≤ hits loop_name y ls = subst (λ (y : List ℕ). 1 ≤ hits loop_name y ls) name (hits_some loop_name o ls mo) in
                 absurd (omega (arith, none, some))
 
         let_named : (y : List ℕ) (c : Split) → In c cuts → y ≡ c.whole → hits itself y (range_names ds) ≡ 0
         let_named y c mc name =
-            let both = shape_of.both_once a sch l well legal small kept all groups n first line g p claims needs at there h lined placed alone_here laid split_alone keeps long ground b ds
+            let both = shape_of.both_once a sch l well legal small kept all groups n first line g p claims needs at there h lined placed alone_here laid split_alone keeps long b ds
             reduced distinct within ranged y in
             let some : 1 ≤ hits itself y xs = subst (λ (y : List ℕ). 1 ≤ hits itself y xs) (sym name) (hits_some itself c.whole xs (wholes c mc)) in
             omega (arith, both, some)
@@ -395,7 +396,7 @@ module _ (a : Algorithm) (sch : Schedule) (l : Lowered) (well : IsAlgorithm a) (
         range_met j t at_j (d, m, is) =
             let name : d.variable ≡ t.name = ap (λ (v : Turning). v.name) (sym is) in
             let some : 1 ≤ hits itself t.name (range_names ds) = subst (λ (y : List ℕ). 1 ≤ hits itself y (range_names ds)) name (shape_of.range_some a sch l well legal small kept all
-            groups n first line g p claims needs at there h lined placed alone_here laid split_alone keeps long ground b ds reduced distinct within ranged ds d m) in
+            groups n first line g p claims needs at there h lined placed alone_here laid split_alone keeps long b ds reduced distinct within ranged ds d m) in
             let same_hits = ranges_hits t.name ds in
             some_if m0 ts turns_alone j t at_j over (map range_name ds) over_reads (omega (arith, some, same_hits))
 
@@ -408,22 +409,22 @@ module _ (a : Algorithm) (sch : Schedule) (l : Lowered) (well : IsAlgorithm a) (
             by : ((o : NestLoop) × In o ls × (o.name ≡ e.turning.name)) ⊎ (is_loop e.line ≡ false) → keep (m0 + j) ≡ true
             by (inl (o, mo, name)) = ap not (free j e.turning t_at (loop_named e.turning.name o mo name))
             by (inr not_loop) =
-                let r = (nest_of.lets a sch l well legal small kept all groups n first line g p claims needs at there h lined placed alone_here laid split_alone keeps long ground (suc i) w
+                let r = (nest_of.lets a sch l well legal small kept all groups n first line g p claims needs at there h lined placed alone_here laid split_alone keeps long (suc i) w
                 stands ds reduced distinct within ranged always (λ j e at_j k. refl) j e.turning t_at (ap is_loop (nest_of.line_at a sch l well legal small kept all groups n first line
-                g p claims needs at there h lined placed alone_here laid split_alone keeps long ground (suc i) w stands ds reduced distinct within ranged always (λ j e at_j k. refl)
+                g p claims needs at there h lined placed alone_here laid split_alone keeps long (suc i) w stands ds reduced distinct within ranged always (λ j e at_j k. refl)
                 j e at_j) ∙ not_loop)).0 in
                 ap not (free j e.turning t_at (let_named e.turning.name r.split r.among r.name))
 
         abbrev factor_at : ℕ → ℤ
-        factor_at = nest_of.factor_at a sch l well legal small kept all groups n first line g p claims needs at there h lined placed alone_here laid split_alone keeps long ground (suc i) w
+        factor_at = nest_of.factor_at a sch l well legal small kept all groups n first line g p claims needs at there h lined placed alone_here laid split_alone keeps long (suc i) w
             stands ds reduced distinct within ranged keep kept_turns
 
         abbrev tops_at : ℕ → List Form
-        tops_at = nest_of.tops_at a sch l well legal small kept all groups n first line g p claims needs at there h lined placed alone_here laid split_alone keeps long ground (suc i) w
+        tops_at = nest_of.tops_at a sch l well legal small kept all groups n first line g p claims needs at there h lined placed alone_here laid split_alone keeps long (suc i) w
             stands ds reduced distinct within ranged keep kept_turns
 
         abbrev owner_at : ℕ → List ℕ
-        owner_at = nest_of.owner_at a sch l well legal small kept all groups n first line g p claims needs at there h lined placed alone_here laid split_alone keeps long ground (suc i) w
+        owner_at = nest_of.owner_at a sch l well legal small kept all groups n first line g p claims needs at there h lined placed alone_here laid split_alone keeps long (suc i) w
             stands ds reduced distinct within ranged keep kept_turns
 
         abbrev Bounded : ℕ → Turning → Type 0
@@ -431,11 +432,11 @@ module _ (a : Algorithm) (sch : Schedule) (l : Lowered) (well : IsAlgorithm a) (
             × IsKeptBy xs ls cuts rs others once halves outers gone m0 ts kinds c (m0 + j) f × (is_within_limits f ≡ true) × (lim (m0 + j) ≡ f ∷ []))
 
         bounded : (j : ℕ) (t : Turning) → slice_get ts j ≡ Some t → Bounded j t
-        bounded = nest_of.bounded a sch l well legal small kept all groups n first line g p claims needs at there h lined placed alone_here laid split_alone keeps long ground (suc i) w
+        bounded = nest_of.bounded a sch l well legal small kept all groups n first line g p claims needs at there h lined placed alone_here laid split_alone keeps long (suc i) w
             stands ds reduced distinct within ranged keep kept_turns
 
         lets_kept : (j : ℕ) (t : Turning) → slice_get ts j ≡ Some t → is_loop (kinds (m0 + j)) ≡ false → keep (m0 + j) ≡ true
-        lets_kept j t at_j e = (nest_of.lets a sch l well legal small kept all groups n first line g p claims needs at there h lined placed alone_here laid split_alone keeps long ground
+        lets_kept j t at_j e = (nest_of.lets a sch l well legal small kept all groups n first line g p claims needs at there h lined placed alone_here laid split_alone keeps long
             (suc i) w stands ds reduced distinct within ranged keep kept_turns j t at_j e).3
 
         ranges_out : (j : ℕ) (t : Turning) → slice_get ts j ≡ Some t → is_loop (kinds (m0 + j)) ≡ true → (i : ℕ) → IsRangeTurn b rs ls ds ranged t → keep (m0 + j) ≡ false
@@ -454,10 +455,10 @@ module _ (a : Algorithm) (sch : Schedule) (l : Lowered) (well : IsAlgorithm a) (
                     let owner_so : owner_at j ≡ d.variable =
                     ap (λ (o : Option Turning). elim o [ Some t ↦ old.owner_named xs ls cuts rs others once halves outers gone t.name | None ↦ [] ]) at_j
                     ∙ old.owner_foreign xs ls cuts rs others once halves outers gone grid t (shape_of.range_turn a sch l well legal small kept all groups n first line g p claims needs at
-                    there h lined placed alone_here laid split_alone keeps long ground b ds reduced distinct within ranged t (d, m, is)) ∙ ap (λ (v : Turning). v.name) is in
+                    there h lined placed alone_here laid split_alone keeps long b ds reduced distinct within ranged t (d, m, is)) ∙ ap (λ (v : Turning). v.name) is in
                     ap (λ (y : List ℕ). hits itself y kept_names) owner_so
                     ∙ hits_absent itself d.variable kept_names (λ x mx s. shape_of.range_apart a sch l well legal small kept all groups n first line g p claims needs at there h lined placed
-                    alone_here laid split_alone keeps long ground b ds reduced distinct within ranged d m x (kept_among b 0 xs x mx) (sym s))
+                    alone_here laid split_alone keeps long b ds reduced distinct within ranged d m x (kept_among b 0 xs x mx) (sym s))
 
         -- its loop has no further upper form, and the forms of the others name other symbols
         range_bare : (j : ℕ) (t : Turning) → slice_get ts j ≡ Some t → IsRangeTurn b rs ls ds ranged t → lim (m0 + j) ≡ []
@@ -466,7 +467,7 @@ module _ (a : Algorithm) (sch : Schedule) (l : Lowered) (well : IsAlgorithm a) (
             of : Bounded j t → lim (m0 + j) ≡ []
             of (inl e) = e
             of (inr (c, mc, rests, name, loop, f, limited, near_f, more)) = absurd (shape_of.range_half a sch l well legal small kept all groups n first line g p claims needs at there h
-                lined placed alone_here laid split_alone keeps long ground b ds reduced distinct within ranged d m c mc (inr (ap (λ (v : Turning). v.name) (sym is) ∙ name)))
+                lined placed alone_here laid split_alone keeps long b ds reduced distinct within ranged d m c mc (inr (ap (λ (v : Turning). v.name) (sym is) ∙ name)))
 
         bare_out : AreBare lim keep m0 ts
         bare_out j t at_j out = of (is_loop (kinds (m0 + j))) refl
@@ -489,7 +490,7 @@ module _ (a : Algorithm) (sch : Schedule) (l : Lowered) (well : IsAlgorithm a) (
             by : IsLoopTurn b rs ls ds ranged v ⊎ IsRangeTurn b rs ls ds ranged v → keep (m0 + o) ≡ true
             by (inl r) = ap not (loop_free o v at_o r)
             by (inr (d, m, is)) = absurd (shape_of.range_half a sch l well legal small kept all groups n first line g p claims needs at there h lined placed alone_here laid split_alone
-                keeps long ground b ds reduced distinct within ranged d m c mc (elim half [
+                keeps long b ds reduced distinct within ranged d m c mc (elim half [
                   | inl s ↦ inl (ap (λ (w : Turning). w.name) (sym is) ∙ s)
                   | inr s ↦ inr (ap (λ (w : Turning). w.name) (sym is) ∙ s)
                 ]))
@@ -522,7 +523,7 @@ module _ (a : Algorithm) (sch : Schedule) (l : Lowered) (well : IsAlgorithm a) (
 
             line_out : (v : Bool) → is_loop (kinds (m0 + j)) ≡ v → IsOutside kinds lim keep outs (kinds (m0 + j))
             line_out true loop = subst (IsOutside kinds lim keep outs) (sym (only (kinds (m0 + j)) loop)) tt
-            line_out false e = by (nest_of.lets a sch l well legal small kept all groups n first line g p claims needs at there h lined placed alone_here laid split_alone keeps long ground
+            line_out false e = by (nest_of.lets a sch l well legal small kept all groups n first line g p claims needs at there h lined placed alone_here laid split_alone keeps long
                 (suc i) w stands ds reduced distinct within ranged keep kept_turns j t at_j e)
               where
                 by : (r : IsLetOf xs ls cuts rs others once halves outers gone m0 ts kinds j t)
@@ -558,7 +559,7 @@ module _ (a : Algorithm) (sch : Schedule) (l : Lowered) (well : IsAlgorithm a) (
         parted =
             middle_of cuts others once rs grid (length (piece_counts rs ls)) firsts middle lasts es
             (λ j t at_j d md name. (let r = middle_range j t at_j in shape_of.range_half a sch l well legal small kept all groups n first line g p claims needs at there h lined placed
-            alone_here laid split_alone keeps long ground b ds reduced distinct within ranged r.0 r.1 d md (inl (ap (λ (v : Turning). v.name) (sym r.2) ∙ name))))
+            alone_here laid split_alone keeps long b ds reduced distinct within ranged r.0 r.1 d md (inl (ap (λ (v : Turning). v.name) (sym r.2) ∙ name))))
             (subst (λ (vs : List Turning). Woven cuts others once rs grid (length (piece_counts rs ls)) vs es) three q.woven)
 
         there_of : (j : ℕ) (t : Turning) → ((e : Entry) × (slice_get es j ≡ Some e) × (e.turning ≡ t)) → slice_get ts j ≡ Some t
@@ -569,9 +570,9 @@ module _ (a : Algorithm) (sch : Schedule) (l : Lowered) (well : IsAlgorithm a) (
         from_free us' every j t at_j (inl m) = loop_free j t at_j (all_in (IsLoopTurn b rs ls ds ranged) us' t every m)
         from_free us' every j t at_j (inr (d, md, is)) = free j t at_j (let_named t.name d md (ap (λ (v : Turning). v.name) is))
 
-        order : is_reduced R (grid_binders k.grid) (Some ds) over (loops_in (lines_of kinds lim m0 ts)) ≡ true
+        order : is_reduced R around (Some ds) over (loops_in (lines_of kinds lim m0 ts)) ≡ true
         order =
-            reduced_loops kinds lim m0 ts parted.before parted.behind ds over R refl (grid_binders k.grid) turns_alone parted.are over_reads meant
+            reduced_loops kinds lim m0 ts parted.before parted.behind ds over R refl around turns_alone parted.are over_reads meant
             (λ j t at_j loop. (let r = parted.earlier j t at_j in from_free firsts (loop_parts b rs ls ds ranged false) j t (there_of j t (r.0, r.1, r.2)) r.3))
             (λ j t at_j loop. (let r = parted.later j t at_j in
             from_free lasts (loop_parts b rs ls ds ranged true) (length parted.before + (length middle + j)) t
@@ -591,23 +592,23 @@ module _ (a : Algorithm) (sch : Schedule) (l : Lowered) (well : IsAlgorithm a) (
                     of : (v : Bool) → is_loop (kinds (m0 + place)) ≡ v → kinds (m0 + place) ≡ Loop
                     of true loop = only (kinds (m0 + place)) loop
                     of false e =
-                        let r = (nest_of.lets a sch l well legal small kept all groups n first line g p claims needs at there h lined placed alone_here laid split_alone keeps long ground
+                        let r = (nest_of.lets a sch l well legal small kept all groups n first line g p claims needs at there h lined placed alone_here laid split_alone keeps long
                         (suc i) w stands ds reduced distinct within ranged always (λ j e at_j k. refl) place t at_place e).0 in
-                        absurd (shape_of.range_apart a sch l well legal small kept all groups n first line g p claims needs at there h lined placed alone_here laid split_alone keeps long
-                        ground b ds reduced distinct within ranged d m r.split.whole (wholes r.split r.among) (ap (λ (v : Turning). v.name) (sym is) ∙ r.name))
+                        absurd (shape_of.range_apart a sch l well legal small kept all groups n first line g p claims needs at there h lined placed alone_here laid split_alone keeps long b
+                        ds reduced distinct within ranged d m r.split.whole (wholes r.split r.among) (ap (λ (v : Turning). v.name) (sym is) ∙ r.name))
 
         -- ---- the tests
 
         abbrev kept_sums : AreSums factor_at m0 ts owner_at kinds lim tops_at keep kept_names
-        kept_sums = nest_of.sums a sch l well legal small kept all groups n first line g p claims needs at there h lined placed alone_here laid split_alone keeps long ground (suc i) w
+        kept_sums = nest_of.sums a sch l well legal small kept all groups n first line g p claims needs at there h lined placed alone_here laid split_alone keeps long (suc i) w
             stands ds reduced distinct within ranged keep kept_turns kept_names (λ x m. m)
 
         facts : LinesFit factor_at m0 ts owner_at kinds lim tops_at keep kept_names
-        facts = nest_of.fit_lines a sch l well legal small kept all groups n first line g p claims needs at there h lined placed alone_here laid split_alone keeps long ground (suc i) w
+        facts = nest_of.fit_lines a sch l well legal small kept all groups n first line g p claims needs at there h lined placed alone_here laid split_alone keeps long (suc i) w
             stands ds reduced distinct within ranged keep kept_turns ranges_out
 
         left_reads : (forms_in left ≡ sum_forms factor_at m0 ts owner_at kinds lim tops_at keep kept_names kept_sums) × (at_forms left (map claim xs) ≡ map claim kept_names)
-        left_reads = nest_of.reads a sch l well legal small kept all groups n first line g p claims needs at there h lined placed alone_here laid split_alone keeps long ground (suc i) w
+        left_reads = nest_of.reads a sch l well legal small kept all groups n first line g p claims needs at there h lined placed alone_here laid split_alone keeps long (suc i) w
             stands ds reduced distinct within ranged keep kept_turns ms 0 xs (λ x m. m) tail names formula.0.at cs formula.2
 
         parted_here : is_parted over (lines_of kinds lim m0 ts) (forms_in left) ≡ true
@@ -627,55 +628,55 @@ module _ (a : Algorithm) (sch : Schedule) (l : Lowered) (well : IsAlgorithm a) (
             let v = pure_are kinds lim over m0 ts lets_kept in
             let f = left_reads.0 in
             (λ j. is_once (v j) (f j)) ∙ met_once factor_at m0 ts owner_at kinds lim tops_at keep kept_names facts lets_kept kept_sums (nest_of.low_lines a sch l well legal small kept all
-            groups n first line g p claims needs at there h lined placed alone_here laid split_alone keeps long ground (suc i) w stands ds reduced distinct within ranged keep kept_turns) no_blocks
+            groups n first line g p claims needs at there h lined placed alone_here laid split_alone keeps long (suc i) w stands ds reduced distinct within ranged keep kept_turns) no_blocks
 
-        covers_here : covers R (grid_binders k.grid) (pure_steps over (lines_of kinds lim m0 ts)) (forms_in left) (at_forms left (map claim xs)) ≡ true
+        covers_here : covers R around (pure_steps over (lines_of kinds lim m0 ts)) (forms_in left) (at_forms left (map claim xs)) ≡ true
         covers_here =
             let v = pure_are kinds lim over m0 ts lets_kept in
             let f = left_reads.0 in
             let c = left_reads.1 in
-            (λ j. covers R (grid_binders k.grid) (v j) (f j) (c j))
+            (λ j. covers R around (v j) (f j) (c j))
             ∙ covered factor_at m0 ts owner_at kinds lim tops_at keep kept_names facts lets_kept kept_sums (nest_of.low_lines a sch l well legal small kept all groups n first line g p
-            claims needs at there h lined placed alone_here laid split_alone keeps long ground (suc i) w stands ds reduced distinct within ranged keep kept_turns) R (grid_binders k.grid) claim
-            (nest_of.claimed_all a sch l well legal small kept all groups n first line g p claims needs at there h lined placed alone_here laid split_alone keeps long ground (suc i) w
+            claims needs at there h lined placed alone_here laid split_alone keeps long (suc i) w stands ds reduced distinct within ranged keep kept_turns) R around claim
+            (nest_of.claimed_all a sch l well legal small kept all groups n first line g p claims needs at there h lined placed alone_here laid split_alone keeps long (suc i) w
             stands ds reduced distinct within ranged keep kept_turns kept_names (λ x m. m))
 
         module _ (domain : domains_of a g.subject.name (suc i) ≡ Some ds) (c : Claim) (defined : c.definition ≡ suc i) (named_so : same_name (O.setting.buffer_function 0) c.function ≡ true)
             (name : c.function ≡ g.subject.name) (over_region : c.region ≡ region) where
           left_taken : left_of O.setting 0 cs ≡ left
           left_taken = ap (λ (m : ℕ). take m cs) (group.dims a sch l well legal small kept all groups n first line g p claims needs at there h lined placed alone_here laid split_alone keeps
-              long ground)
+              long)
 
           over_taken : over_of O.setting 0 cs ≡ over
           over_taken = ap (λ (m : ℕ). drop m cs) (group.dims a sch l well legal small kept all groups n first line g p claims needs at there h lined placed alone_here laid split_alone keeps
-              long ground)
+              long)
 
-          pub stepped : is_stepped O.setting R (domains_of a) (grid_binders k.grid) c (lines_of kinds lim m0 ts) (Store 0 (suc i) cs e) ≡ true
+          pub stepped : is_stepped O.setting R (domains_of a) around c (lines_of kinds lim m0 ts) (Store 0 (suc i) cs e) ≡ true
           stepped =
               let one : (c.definition == suc i) ≡ true = ap (λ (m : ℕ). m == suc i) defined ∙ eq_refl (suc i) in
               let left_at = left_taken in
               let over_at = over_taken in
               let domain_is : domains_of a c.function (suc i) ≡ Some ds = ap (λ (x : List ℕ). domains_of a x (suc i)) name ∙ domain in
-              let turn : is_reduced R (grid_binders k.grid) (domains_of a c.function (suc i)) (over_of O.setting 0 cs) (loops_in (lines_of kinds lim m0 ts)) ≡ true =
-              (λ j. is_reduced R (grid_binders k.grid) (domain_is j) (over_at j) (loops_in (lines_of kinds lim m0 ts))) ∙ order in
+              let turn : is_reduced R around (domains_of a c.function (suc i)) (over_of O.setting 0 cs) (loops_in (lines_of kinds lim m0 ts)) ≡ true =
+              (λ j. is_reduced R around (domain_is j) (over_at j) (loops_in (lines_of kinds lim m0 ts))) ∙ order in
               let scope = scoped_kept kinds lim always m0 ts (nest_of.low_lines a sch l well legal small kept all groups n first line g p claims needs at there h lined placed alone_here
-              laid split_alone keeps long ground (suc i) w stands ds reduced distinct within ranged always (λ j e at_j k. refl)) in
+              laid split_alone keeps long (suc i) w stands ds reduced distinct within ranged always (λ j e at_j k. refl)) in
               let parts_so : is_parted (over_of O.setting 0 cs) (lines_of kinds lim m0 ts) (forms_in (left_of O.setting 0 cs)) ≡ true =
               (λ j. is_parted (over_at j) (lines_of kinds lim m0 ts) (forms_in (left_at j))) ∙ parted_here in
               let once_so : is_once (pure_steps (over_of O.setting 0 cs) (lines_of kinds lim m0 ts)) (forms_in (left_of O.setting 0 cs)) ≡ true =
               (λ j. is_once (pure_steps (over_at j) (lines_of kinds lim m0 ts)) (forms_in (left_at j))) ∙ once_here in
               λ j. one j && (named_so j && (turn j && (scope j && (parts_so j && once_so j))))
 
-          pub spread : is_spread O.setting R (grid_binders k.grid) c (lines_of kinds lim m0 ts) (Store 0 (suc i) cs e) ≡ true
+          pub spread : is_spread O.setting R around c (lines_of kinds lim m0 ts) (Store 0 (suc i) cs e) ≡ true
           spread =
               let left_at = left_taken in
               let over_at = over_taken in
               let whole_region : c.region ≡ map claim xs = over_region ∙ group.own_claim_is a sch l well legal small kept all groups n first line g p claims needs at there h lined placed
-              alone_here laid split_alone keeps long ground in
+              alone_here laid split_alone keeps long in
               let long_so : length (left_of O.setting 0 cs) ≡ length xs = ap length left_at ∙ left_long in
               let wide : length c.region ≡ length xs = ap length whole_region ∙ length-map xs claim in
               let many : (length (left_of O.setting 0 cs) == length c.region) ≡ true = (λ j. long_so j == wide j) ∙ eq_refl (length xs) in
-              let all_covered : covers R (grid_binders k.grid) (pure_steps (over_of O.setting 0 cs) (lines_of kinds lim m0 ts)) (forms_in (left_of O.setting 0 cs))
+              let all_covered : covers R around (pure_steps (over_of O.setting 0 cs) (lines_of kinds lim m0 ts)) (forms_in (left_of O.setting 0 cs))
               (at_forms (left_of O.setting 0 cs) c.region) ≡ true =
-              (λ j. covers R (grid_binders k.grid) (pure_steps (over_at j) (lines_of kinds lim m0 ts)) (forms_in (left_at j)) (at_forms (left_at j) (whole_region j))) ∙ covers_here in
+              (λ j. covers R around (pure_steps (over_at j) (lines_of kinds lim m0 ts)) (forms_in (left_at j)) (at_forms (left_at j) (whole_region j))) ∙ covers_here in
               λ j. many j && all_covered j

@@ -12,7 +12,8 @@ use Rattle.sched.specs.Legal.{said, loops_after}
 use Rattle.lower.specs.Stored.{FormulaText, StoredText, stored_by, flags, stored_functions}
 use Rattle.lower.specs.Regions.{LaidText, laid_functions}
 use Rattle.lower.specs.Bodies.{step_lines}
-use Rattle.completeness.specs.Blocked.{makes_line, IsKept, IsTailed}
+use Rattle.completeness.specs.Blocked.{makes_line, IsKept}
+use Rattle.completeness.specs.Fitting.{IsSplitOnce}
 use Rattle.completeness.specs.Stores.{IsNearRegion}
 use Rattle.completeness.specs.Simple.{SimpleIndices}
 use Rattle.completeness.specs.Filled.{IsNearOrSimple}
@@ -76,16 +77,16 @@ first_blocked = record {
   filled = λ l e. subst (IsFilled first) (sym region_first ∙ ap region_in e) first_filled;
 }
 
-first_tailed : IsTailed first
-first_tailed = record { once = (refl, (refl, tt)); inners = (refl, refl, (refl, refl, tt)); inside = ((λ e. absurd (cc e)), ((λ e. absurd (cc e)), tt)) }
+first_once : IsSplitOnce first
+first_once = record { once = (refl, (refl, tt)); inners = (refl, refl, (refl, refl, tt)) }
 
-second_tailed : IsTailed second
-second_tailed = record { once = (refl, (refl, tt)); inners = (refl, refl, (refl, refl, tt)); inside = ((λ e. refl), ((λ e. refl), tt)) }
+second_once : IsSplitOnce second
+second_once = record { once = (refl, (refl, tt)); inners = (refl, refl, (refl, refl, tt)) }
 
-tailed : (n : ℕ) (u : StoredText) → slice_get gs n ≡ Some u → IsTailed u
-tailed zero u at = subst IsTailed (first_is u at) first_tailed
-tailed (suc zero) u at = subst IsTailed (second_is u at) second_tailed
-tailed (suc (suc n)) u at = absurd (no_more u at)
+once : (n : ℕ) (u : StoredText) → slice_get gs n ≡ Some u → IsSplitOnce u
+once zero u at = subst IsSplitOnce (first_is u at) first_once
+once (suc zero) u at = subst IsSplitOnce (second_is u at) second_once
+once (suc (suc n)) u at = absurd (no_more u at)
   where
     no_more : (u : StoredText) → None ≡ Some u → ⊥
     no_more u q = cc q
@@ -191,6 +192,6 @@ second_twelve = (refl, tt)
 
 pub splits_are_plain : SplitsFill
 splits_are_plain = record {
-  plain = record { whole = refl; tailed = tailed; placed = placed; near = near };
+  plain = record { whole = refl; once = once; placed = placed; near = near };
   nest = λ r e. subst HasTwelve (as_laid 1 r e) second_twelve;
 }

@@ -19,7 +19,7 @@ use Rattle.sched.specs.declared.placing.Loop.{Loop}
 use Rattle.sched.specs.declared.numbers.Numbers.{Numbers}
 use Rattle.sched.specs.Schedule.{Schedule}
 use Rattle.sched.specs.Legal.{IsLegal}
-use Rattle.sched.specs.Placing.{has_loop, is_parallel, is_shifted}
+use Rattle.sched.specs.Placing.{has_loop, is_parallel}
 use Rattle.sched.specs.Numbers.{numbers_named, loop_numbers}
 use Rattle.sched.specs.Standing.{has_rest}
 use Rattle.lower.specs.declared.lowering.Lowered.{Lowered}
@@ -30,6 +30,7 @@ use Rattle.lower.specs.Refused.{AreSmall, AreRegionsKept}
 use Rattle.lower.specs.Groups.{AreGroupsMade}
 use Rattle.completeness.specs.Laws.{IsFetch, AreSplitOnce}
 use Rattle.completeness.specs.Parted.{KeepsInner}
+use Rattle.completeness.specs.Fitting.{IsSplitOnce}
 use Rattle.completeness.specs.Owed.{EachClaim, AreClaimsNear}
 use Rattle.completeness.specs.Nested.{TakeSplit}
 
@@ -58,17 +59,6 @@ pub record IsKept (a : Algorithm) (s : Schedule) (n : ℕ) (g : StoredText) : Ty
   pub filled : (l : LaidText) → slice_get (laid_functions a (stored_functions a s)) n ≡ Some (Some l) →
       AllByRecursion (λ c. makes_line g.placed.loops (loop_numbers g.subject.variables g.placed.cuts l.region) c ≡ false) g.placed.cuts
 
--- no outer loop of a split with `shift` is parallel
-abbrev pub AreShiftsInside : List Loop → List Split → Type 0
-AreShiftsInside ls cs = AllByRecursion (λ c. is_shifted c ≡ true → list_any (λ l. is_parallel l && same_name l.name c.outer) ls ≡ false) cs
-
--- no loop that a split makes is split again, no inner one is parallel, and no outer one of a split with `shift` is: whatever the tails, in whatever order the loops
--- stand
-pub record IsTailed (g : StoredText) : Type 0 where
-  pub once : AreSplitOnce g.placed.cuts
-  pub inners : KeepsInner g.placed.loops g.placed.cuts
-  pub inside : AreShiftsInside g.placed.loops g.placed.cuts
-
 -- all that the claims of nests owe is shown, where the tests of nests say yes to split nests
 abbrev pub BlockedClaimsShown : Algorithm → Plan → Certificate → ℕ → Group → Type 0
 BlockedClaimsShown a p c n g =
@@ -77,11 +67,12 @@ BlockedClaimsShown a p c n g =
     EachClaim outline rules (λ kept begin last known s k. ¬ IsFetch s → (nests : Nests) → TakeSplit a p c n g nests →
     all_shown rules nests (claim_obligations outline rules kept begin last known s k) ≡ true) [] g.body (body_line p n) (start (grid_binders g.grid))
 
--- so it is of each such function: a coordinate is a form over the grid, a loop's symbol, the first number of a block and the symbol of a loop over its numbers,
--- or the symbol of a let behind the guard that keeps them
+-- so it is of each function whose loops are split once, whatever the tails, in whatever order: a coordinate is a form over the grid, a loop's symbol, the first
+-- number of a block, which may be a let over the grid or in the nest, and the symbol of a loop over its numbers, or the symbol of a let behind the guard that
+-- keeps them
 abbrev pub BlockedClaimsOweShown : Type 0
 BlockedClaimsOweShown =
     (a : Algorithm) (s : Schedule) (l : Lowered) → IsAlgorithm a → IsLegal a s → AreSmall a s → AreRegionsKept a s → AreGroupsMade a s l
     → are_whole (stored_functions a s) ≡ true → AreClaimsNear (certificate_of l.certificate)
-    → (n : ℕ) (g : Group) → slice_get (plan_of l.plan).groups n ≡ Some g → (u : StoredText) → slice_get (stored_functions a s) n ≡ Some u → IsTailed u
+    → (n : ℕ) (g : Group) → slice_get (plan_of l.plan).groups n ≡ Some g → (u : StoredText) → slice_get (stored_functions a s) n ≡ Some u → IsSplitOnce u
     → BlockedClaimsShown a (plan_of l.plan) (certificate_of l.certificate) n g

@@ -35,7 +35,8 @@ use Rattle.completeness.specs.Nested.{TakeSplit}
 use Rattle.completeness.specs.Stores.{AreHeld, GroupShown, IsNearRegion, IsCloseRegion}
 use Rattle.completeness.specs.Simple.{SimpleIndices}
 use Rattle.completeness.specs.Placed.{ArePlaced, AreLeftsHeld, AreOwnHeld}
-use Rattle.completeness.specs.Blocked.{is_tailed, IsKept, IsTailed}
+use Rattle.completeness.specs.Blocked.{is_tailed, IsKept}
+use Rattle.completeness.specs.Fitting.{IsSplitOnce}
 
 -- where the blocks of a split run past the end of its loop, and no guard keeps them within it, the numbers that they reach are of 32 bits
 abbrev pub AreEndsShort : List Numbers → List Split → Type 0
@@ -65,7 +66,7 @@ BlockedGroupsOweShown =
     (a : Algorithm) (s : Schedule) (l : Lowered) → IsAlgorithm a → IsLegal a s → AreSmall a s → AreRegionsKept a s → AreGroupsMade a s l
     → are_whole (stored_functions a s) ≡ true → NamesNoLoad a → AreLinesTold (plan_of l.plan) → AreGridsFew (plan_of l.plan) → AreSymbolsFew (plan_of l.plan)
     → AreClaimsNear (certificate_of l.certificate)
-    → (n : ℕ) (g : Group) → slice_get (plan_of l.plan).groups n ≡ Some g → (u : StoredText) → slice_get (stored_functions a s) n ≡ Some u → IsTailed u
+    → (n : ℕ) (g : Group) → slice_get (plan_of l.plan).groups n ≡ Some g → (u : StoredText) → slice_get (stored_functions a s) n ≡ Some u → IsSplitOnce u
     → (fs : List FormulaText) → u.formulas ≡ Some fs → (r : LaidText) → slice_get (laid_functions a (stored_functions a s)) n ≡ Some (Some r)
     → AreLeftsHeld a u fs r.region r.skeleton → AreOwnHeld a u fs r.region r.skeleton → AreHeld a (stored_functions a s) n u fs r.skeleton → AreEndsShort (loop_numbers u.subject.variables
     u.placed.cuts r.region) u.placed.cuts
@@ -78,7 +79,7 @@ NearBlockedGroupsOweShown =
     (a : Algorithm) (s : Schedule) (l : Lowered) → IsAlgorithm a → IsLegal a s → AreSmall a s → AreRegionsKept a s → AreGroupsMade a s l
     → are_whole (stored_functions a s) ≡ true → NamesNoLoad a → AreLinesTold (plan_of l.plan) → AreGridsFew (plan_of l.plan) → AreSymbolsFew (plan_of l.plan)
     → AreClaimsNear (certificate_of l.certificate)
-    → (n : ℕ) (g : Group) → slice_get (plan_of l.plan).groups n ≡ Some g → (u : StoredText) → slice_get (stored_functions a s) n ≡ Some u → IsTailed u
+    → (n : ℕ) (g : Group) → slice_get (plan_of l.plan).groups n ≡ Some g → (u : StoredText) → slice_get (stored_functions a s) n ≡ Some u → IsSplitOnce u
     → (fs : List FormulaText) → u.formulas ≡ Some fs → (r : LaidText) → slice_get (laid_functions a (stored_functions a s)) n ≡ Some (Some r) → ArePlaced a u fs r
     → IsNearOrSimple a s n u fs r.region
     → GroupShown TakeSplit a (plan_of l.plan) (certificate_of l.certificate) n g ⊎ IsShownElsewhere a (plan_of l.plan) (certificate_of l.certificate) n g
@@ -90,6 +91,7 @@ StoreLinesOweShown =
     (a : Algorithm) (s : Schedule) (l : Lowered) → IsAlgorithm a → IsLegal a s → AreSmall a s → AreRegionsKept a s → AreGroupsMade a s l
     → are_whole (stored_functions a s) ≡ true → NamesNoLoad a → AreLinesTold (plan_of l.plan) → AreGridsFew (plan_of l.plan) → AreSymbolsFew (plan_of l.plan)
     → (n : ℕ) (g : Group) → slice_get (plan_of l.plan).groups n ≡ Some g → (u : StoredText) → slice_get (stored_functions a s) n ≡ Some u
-    → IsTailed u → (fs : List FormulaText) → u.formulas ≡ Some fs → (r : LaidText) → slice_get (laid_functions a (stored_functions a s)) n ≡ Some (Some r) → ArePlaced a u fs r
+    → IsSplitOnce u → (fs : List FormulaText) → u.formulas ≡ Some fs → (r : LaidText) → slice_get (laid_functions a (stored_functions
+    a s)) n ≡ Some (Some r) → ArePlaced a u fs r
     → SimpleIndices fs → AreEndsShort (loop_numbers u.subject.variables u.placed.cuts r.region) u.placed.cuts
     → OweShown IsStore a (plan_of l.plan) (certificate_of l.certificate) n g

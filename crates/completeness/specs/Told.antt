@@ -27,17 +27,17 @@ use Rattle.lower.specs.Faults.{are_whole}
 use Rattle.lower.specs.Refused.{AreSmall, AreRegionsKept}
 use Rattle.lower.specs.Groups.{AreGroupsMade}
 use Rattle.completeness.specs.Placed.{ArePlaced}
-use Rattle.completeness.specs.Blocked.{IsTailed}
+use Rattle.completeness.specs.Fitting.{IsSplitOnce}
 use Rattle.completeness.specs.Laws.{AreLinesTold}
 use Rattle.completeness.specs.Filled.{IsNearOrSimple, IsShownElsewhere}
 
--- each stored function is a root function that is computed at no loop; its loops are split once at most, whatever the tails and in whatever order they stand,
--- but no outer loop of a split with `shift` is parallel; where a left index of its updates is no variable, each index of a call of the function itself at its
+-- each stored function is a root function that is computed at no loop; its loops are split once at most, no inner one parallel, whatever the tails and in
+-- whatever order they stand; where a left index of its updates is no variable, each index of a call of the function itself at its
 -- place is over reduction variables alone, or asking for its region came to an end; and each index of its definitions is simple, or the region that is needed
 -- of it begins near 0, and no split is with `shift`, nor with a `guard` that keeps numbers by a line of its own
 pub record SplitsPlainly (a : Algorithm) (s : Schedule) : Type 0 where
   pub whole : are_whole (stored_functions a s) ≡ true
-  pub tailed : (n : ℕ) (u : StoredText) → slice_get (stored_functions a s) n ≡ Some u → IsTailed u
+  pub once : (n : ℕ) (u : StoredText) → slice_get (stored_functions a s) n ≡ Some u → IsSplitOnce u
   pub placed : (n : ℕ) (u : StoredText) → slice_get (stored_functions a s) n ≡ Some u → (fs : List FormulaText) → u.formulas ≡ Some fs
       → (r : LaidText) → slice_get (laid_functions a (stored_functions a s)) n ≡ Some (Some r) → ArePlaced a u fs r
   pub near : (n : ℕ) (u : StoredText) → slice_get (stored_functions a s) n ≡ Some u → (fs : List FormulaText) → u.formulas ≡ Some fs →
