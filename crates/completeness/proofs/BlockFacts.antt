@@ -1,32 +1,25 @@
--- The loops of a function whose loops are split once: which names splits make, which loop is of which variable, and the loops of a nest.
-use Rattle.std.proofs.Common.{◌≡◌, ℕ, ◌+◌, ◌≤◌, Bool, true, false, ◌&&◌, ◌||◌, not, List, [], ◌∷◌, ◌++◌, map, Some, refl, sym, ap, ◌∙◌, subst, inl, inr, ◌⊎◌, arith}
-use Rattle.std.specs.Prelude.{if◌then◌else◌, filter, reverse, slice_get, ◌==◌}
-use Rattle.std.specs.List.{AllByRecursion, list_any}
-use Rattle.std.proofs.lemmas.List.{append-nil}
-use Rattle.bounds.proofs.ListSound.{all-append}
+-- The loops of a function whose loops are split once: which names splits make, which loop is of which variable, and which loops are over the grid.
+use Rattle.std.proofs.Common.{◌≡◌, ℕ, ◌+◌, ◌≤◌, Bool, true, false, ◌&&◌, ◌||◌, List, [], ◌∷◌, ◌++◌, refl, sym, ap, ◌∙◌, subst, inl, inr, ◌⊎◌, arith}
+use Rattle.std.specs.Prelude.{if◌then◌else◌, reverse, ◌==◌}
+use Rattle.std.specs.List.{list_any}
 use Rattle.meaning.specs.Names.{same_name, is_among}
 use Rattle.soundness.specs.Claims.{In}
 use Rattle.soundness.proofs.Refines.{name_refl, name_true}
-use Rattle.headline.proofs.Lists.{from_map}
-use Rattle.headline.proofs.Regions.{at_in}
 use Rattle.sched.specs.declared.schedule.Split.{Split}
 use Rattle.sched.specs.declared.placing.Loop.{Loop}
-use Rattle.sched.specs.declared.numbers.Numbers.{Numbers}
-use Rattle.sched.specs.declared.nest.Turning.{Turning}
 use Rattle.sched.specs.Numbers.{parallel_loops}
-use Rattle.sched.specs.Placing.{is_parallel, is_vectorized}
+use Rattle.sched.specs.Placing.{is_parallel}
 use Rattle.sched.specs.Standing.{cuts_of, cuts_by_variable}
-use Rattle.sched.specs.Skeleton.{BodyText, loop_turning, is_missing, kept_from, is_same, is_in_nest, nest_turns}
+use Rattle.sched.specs.Skeleton.{BodyText, kept_from}
 use Rattle.sched.proofs.Leading.{in_left, in_right}
 use Rattle.sched.proofs.Rooting.{IsHeld, AreHeld, among_left, among_first}
 use Rattle.sched.proofs.Visiting.{in_reverse}
 use Rattle.lower.proofs.Directed.{AreMade, BothBy, IsEnd}
 use Rattle.completeness.specs.Parted.{KeepsInner}
 use Rattle.completeness.proofs.Lanes.{AreOnce}
-use Rattle.completeness.proofs.PlainTurns.{one_if, hits, hits_append, hits_some, turn_name, found_some, found_there}
-use Rattle.completeness.proofs.PureNests.{all_back, all_get, all_from, loop_name, hits_turned}
-use Rattle.completeness.proofs.UpdateTurns.{hits_fewer, all_filtered}
-use Rattle.completeness.proofs.GridTurns.{hits_back, two_parts}
+use Rattle.completeness.proofs.PlainTurns.{one_if, hits, hits_some}
+use Rattle.completeness.proofs.PureNests.{loop_name}
+use Rattle.completeness.proofs.UpdateTurns.{hits_fewer}
 
 -- ---- names
 
@@ -230,100 +223,3 @@ pub inners_serial : (ls : List Loop) (cs : List Split) → KeepsInner ls cs → 
 inners_serial ls [] h c m = absurd m
 inners_serial ls (b ∷ cs) h c (inl e) = subst (λ (d : Split). hits loop_name d.inner (parallel_loops ls) ≡ 0) (sym e) (inner_serial ls b.inner h.0)
 inners_serial ls (b ∷ cs) h c (inr m) = inners_serial ls cs h.2 c m
-
--- ---- the loops of a nest that has all variables
-
-module _ (b : BodyText) (none : b.missing ≡ []) (bare : b.ranges ≡ []) (rs : List Numbers) (ls : List Loop) where
-  abbrev pub nest_loops : List Loop
-  nest_loops = filter (is_in_nest b false) (reverse ls) ++ filter (is_in_nest b true) (reverse ls)
-
-  map_joined : (xs ys : List Loop) → map (loop_turning rs) (xs ++ ys) ≡ map (loop_turning rs) xs ++ map (loop_turning rs) ys
-  map_joined [] ys = refl
-  map_joined (x ∷ xs) ys = ap (λ (ts : List Turning). loop_turning rs x ∷ ts) (map_joined xs ys)
-
-  pub turns_are : nest_turns b rs ls ≡ map (loop_turning rs) nest_loops
-  turns_are =
-      let first : List Turning = map (loop_turning rs) (filter (is_in_nest b false) (reverse ls)) in
-      let second : List Turning = map (loop_turning rs) (filter (is_in_nest b true) (reverse ls)) in
-      let one : nest_turns b rs ls ≡ first ++ reverse [] ++ second = (λ j. first ++ reverse (bare j) ++ second) in
-      let two : first ++ reverse [] ++ second ≡ first ++ second = ap (λ (zs : List Turning). zs ++ second) (append-nil first) in
-      one ∙ two ∙ sym (map_joined (filter (is_in_nest b false) (reverse ls)) (filter (is_in_nest b true) (reverse ls)))
-
-  not_there : (l : Loop) → is_missing b l.dimension ≡ false
-  not_there l = ap (λ (es : List ℕ). list_any (λ e. e == l.dimension) es) none
-
-  -- each is a loop of the function that is not parallel
-  nest_all : AllByRecursion (λ l. In l ls × (is_parallel l ≡ false)) nest_loops
-  nest_all = all-append (λ l. In l ls × (is_parallel l ≡ false)) (filter (is_in_nest b false) (reverse ls)) (filter (is_in_nest b true) (reverse ls)) (one false) (one true)
-    where
-      serial : (p q r : Bool) → ((not p && q) && r) ≡ true → p ≡ false
-      serial true q r e = absurd (cc e)
-      serial false q r e = refl
-
-      one : (v : Bool) → AllByRecursion (λ l. In l ls × (is_parallel l ≡ false)) (filter (is_in_nest b v) (reverse ls))
-      one v =
-          all_filtered (is_in_nest b v) (λ l. In l ls) (λ l. In l ls × (is_parallel l ≡ false))
-          (λ l e m. (m, serial (is_parallel l) (not (is_missing b l.dimension)) (is_same (is_vectorized l) v) e)) (reverse ls) (all_back (λ l. In l ls) ls (all_from (λ l. In l ls) ls (λ l m. m)))
-
-  pub turn_from : (j : ℕ) (t : Turning) → slice_get (nest_turns b rs ls) j ≡ Some t → (l : Loop) × In l ls × (is_parallel l ≡ false) × (t ≡ loop_turning rs l)
-  turn_from j t at =
-      let r = from_map (loop_turning rs) nest_loops j t (ap (λ (ts : List Turning). slice_get ts j) (sym turns_are) ∙ at) in
-      let k = all_get (λ l. In l ls × (is_parallel l ≡ false)) nest_loops j r.0 nest_all r.1 in
-      (r.0, k.0, k.1, r.2)
-
-  -- and each such loop is there
-  in_filtered : (f : Loop → Bool) (l : Loop) (ms : List Loop) → In l ms → f l ≡ true → In l (filter f ms)
-  in_filtered f l [] m e = absurd m
-  in_filtered f l (o ∷ ms) m e = of (f o) refl m (λ k. in_filtered f l ms k e)
-    where
-      of : (v : Bool) → f o ≡ v → In l (o ∷ ms) → (In l ms → In l (filter f ms)) → In l (if v then o ∷ filter f ms else filter f ms)
-      of true q (inl s) rest = inl s
-      of true q (inr k) rest = inr (rest k)
-      of false q (inl s) rest = (let clash : true ≡ false = sym e ∙ ap f s ∙ q in absurd (cc clash))
-      of false q (inr k) rest = rest k
-
-  in_mapped : (l : Loop) (ms : List Loop) → In l ms → In (loop_turning rs l) (map (loop_turning rs) ms)
-  in_mapped l [] m = absurd m
-  in_mapped l (o ∷ ms) (inl e) = inl (ap (loop_turning rs) e)
-  in_mapped l (o ∷ ms) (inr k) = inr (in_mapped l ms k)
-
-  pub turn_there : (l : Loop) → In l ls → is_parallel l ≡ false → In (loop_turning rs l) (nest_turns b rs ls)
-  turn_there l m e = subst (In (loop_turning rs l)) (sym turns_are) (in_mapped l nest_loops (of (is_vectorized l) refl))
-    where
-      of : (v : Bool) → is_vectorized l ≡ v → In l nest_loops
-      of false q =
-          let has = not_there l in
-          in_left l (filter (is_in_nest b false) (reverse ls)) (filter (is_in_nest b true) (reverse ls))
-          (in_filtered (is_in_nest b false) l (reverse ls) (in_reverse l ls m) (λ j. not (e j) && not (has j) && is_same (q j) false))
-      of true q =
-          let has = not_there l in
-          in_right l (filter (is_in_nest b false) (reverse ls)) (filter (is_in_nest b true) (reverse ls))
-          (in_filtered (is_in_nest b true) l (reverse ls) (in_reverse l ls m) (λ j. not (e j) && not (has j) && is_same (q j) true))
-
-  -- each name stands once
-  module _ (single : (y : List ℕ) → hits loop_name y ls ≤ 1) where
-    pub turns_once : (y : List ℕ) → hits turn_name y (nest_turns b rs ls) ≤ 1
-    turns_once y =
-        let one = ap (hits turn_name y) turns_are ∙ hits_turned rs y nest_loops in
-        let two = hits_append loop_name y (filter (is_in_nest b false) (reverse ls)) (filter (is_in_nest b true) (reverse ls)) in
-        let three = hits_back (is_in_nest b false) y ls in
-        let four = hits_back (is_in_nest b true) y ls in
-        let five = two_parts (is_in_nest b false) (is_in_nest b true) apart y ls in
-        let six = single y in
-        omega (arith, one, two, three, four, five, six)
-      where
-        differ : (a v : Bool) → (a && is_same v false) ≡ true → (a && is_same v true) ≡ false
-        differ true true e = absurd (cc e)
-        differ true false e = refl
-        differ false v e = refl
-
-        apart : (l : Loop) → is_in_nest b false l ≡ true → is_in_nest b true l ≡ false
-        apart l e = differ (not (is_parallel l) && not (is_missing b l.dimension)) (is_vectorized l) e
-
-    pub places_same : (i j : ℕ) (t u : Turning) → slice_get (nest_turns b rs ls) i ≡ Some t → slice_get (nest_turns b rs ls) j ≡ Some u → t.name ≡ u.name → i ≡ j
-    places_same i j t u at there e =
-        let ts = nest_turns b rs ls in
-        let r = found_some ts t.name (hits_some turn_name t ts (at_in ts i t at)) in
-        let one = found_there ts t.name r.0 i t (turns_once t.name) r.1 at (name_refl t.name) in
-        let two = found_there ts t.name r.0 j u (turns_once t.name) r.1 there (ap (λ (y : List ℕ). same_name y t.name) (sym e) ∙ name_refl t.name) in
-        sym one ∙ two

@@ -1,9 +1,8 @@
 -- The loops of the nests of a function whose loops are split once, by blocks that need no line of their own: their names and numbers, and their further upper forms.
-use Rattle.std.proofs.Common.{◌≡◌, ℕ, zero, suc, ◌+◌, ◌-◌, ◌<◌, ◌≤◌, Bool, true, false, List, [], ◌∷◌, length, map, Some, None, refl, sym, ap, ◌∙◌, subst, inl, inr, ◌⊎◌, arith}
-use Rattle.std.proofs.Common.{◌^◌, ◌&&◌, not, append-nil, ◌++◌}
+use Rattle.std.proofs.Common.{◌≡◌, ℕ, zero, suc, ◌+◌, ◌-◌, ◌<◌, Bool, true, false, List, [], ◌∷◌, length, map, Some, None, refl, sym, ap, ◌∙◌, subst, inl, inr, ◌⊎◌, arith}
+use Rattle.std.proofs.Common.{◌&&◌, not, append-nil, ◌++◌}
 use Rattle.std.specs.Prelude.{ℤ, pos, ◌+ℤ◌, ◌-ℤ◌, ◌==◌, if◌then◌else◌, nat_lt, slice_get, filter, reverse, negsuc}
 use Rattle.std.specs.List.{AllByRecursion}
-use Rattle.std.specs.Int.RustNames.{unsigned_abs}
 use Rattle.std.proofs.lemmas.Bool.Decides.{nat_tests}
 use Rattle.std.proofs.lemmas.Int.{ints}
 use Rattle.std.proofs.lemmas.Option.{slice_get_within}
@@ -47,13 +46,13 @@ use Rattle.lower.specs.Groups.{HasBody, HasGroups}
 use Rattle.lower.proofs.Blocking.{IsSmall, CutFits}
 use Rattle.completeness.specs.Laws.{AreSplitOnce}
 use Rattle.completeness.specs.Parted.{KeepsInner}
-use Rattle.completeness.specs.Blocked.{is_tailed, makes_line}
+use Rattle.completeness.specs.Blocked.{makes_line}
 use Rattle.completeness.proofs.Laid.{subjects, found}
 use Rattle.completeness.proofs.Defined.{body_missing, HasMissing}
 use Rattle.completeness.proofs.Served.{roots}
-use Rattle.completeness.proofs.Halves.{AreOthers, IsOther, inner_outer}
+use Rattle.completeness.proofs.Halves.{AreOthers, inner_outer}
 use Rattle.completeness.proofs.Lanes.{AreOnce}
-use Rattle.completeness.proofs.PureNests.{all_in, all_from, all_back, loop_name, all_get}
+use Rattle.completeness.proofs.PureNests.{all_from, all_back, loop_name, all_get}
 use Rattle.completeness.proofs.UpdateTurns.{all_mapped, all_filtered, known_update, ranges_turned}
 use Rattle.completeness.proofs.BlockSums.{pair, pair_is, multiple, two_of}
 use Rattle.completeness.proofs.BlockTurns.{Leaf, IsLimit, IsBlockNest, AreBlocks}
@@ -61,7 +60,6 @@ use Rattle.completeness.proofs.BlockDims.{top, outer_low, outer_last}
 use Rattle.completeness.proofs.PlainNests.{grid_place}
 use Rattle.completeness.proofs.PlainTurns.{hits}
 use Rattle.completeness.proofs.StoreBounds.{steps_keep}
-use Rattle.completeness.proofs.RangedBoxes.{range_box}
 use Rattle.completeness.proofs.BlockFacts.{made_new, among_end, names_in, serial_none}
 use Rattle.completeness.proofs.GuardSums.{left_over, left_is}
 use Rattle.completeness.proofs.BlockNests as nests_of
@@ -96,14 +94,6 @@ pub in_names : (ds : List Range) (r : Range) → In r ds → In r.variable (rang
 in_names [] r m = absurd m
 in_names (d ∷ ds) r (inl e) = inl (ap (λ (x : Range). x.variable) e)
 in_names (d ∷ ds) r (inr m) = inr (in_names ds r m)
-
--- no two splits have one inner loop
-pub inners_same : (cs : List Split) → AreOthers cs → (c d : Split) → In c cs → In d cs → c.inner ≡ d.inner → c ≡ d
-inners_same [] o c d m q e = absurd m
-inners_same (x ∷ cs) o c d (inl h) (inl g) e = h ∙ sym g
-inners_same (x ∷ cs) o c d (inl h) (inr q) e = absurd ((all_in (IsOther x) cs d o.1 q).inner (ap (λ (y : Split). y.inner) (sym h) ∙ e))
-inners_same (x ∷ cs) o c d (inr m) (inl g) e = absurd ((all_in (IsOther x) cs c o.1 m).inner (sym (e ∙ ap (λ (y : Split). y.inner) g)))
-inners_same (x ∷ cs) o c d (inr m) (inr q) e = inners_same cs o.2 c d m q e
 
 -- ---- groups
 
@@ -226,9 +216,6 @@ module _ (a : Algorithm) (sch : Schedule) (l : Lowered) (well : IsAlgorithm a) (
       distinct_here : AreDistinct (xs ++ rn)
       distinct_here = (ranged_at d formula_here.formula formula_here.at).0
 
-      pub within_here : AllByRecursion IsRange ranges
-      within_here = (ranged_at d formula_here.formula formula_here.at).1
-
       -- no reduction variable has the name of another loop
       pub reduction_apart : (x y : List ℕ) → In x rn → LeafName y → x ≡ y → ⊥
       reduction_apart x y m (inl k) e = names_apart xs rn distinct_here y x k m e
@@ -283,34 +270,11 @@ module _ (a : Algorithm) (sch : Schedule) (l : Lowered) (well : IsAlgorithm a) (
         | inr (r, m, is) ↦ absurd (reduction_apart r.variable y (in_names ranges r m) leaf (ap (λ (z : Turning). z.name) (sym is) ∙ name))
       ]
 
-      pub near_here : (j : ℕ) (t : Turning) → slice_get ts j ≡ Some t → (unsigned_abs t.low ≤ 2 ^ 36) × (unsigned_abs t.last ≤ 2 ^ 36)
-      near_here j t e = elim (kind_of_turn j t e) [
-        | inl (o, m, serial, is) ↦
-            (let ends = nests_of.near_named a sch l well legal small kept all groups n first line g p claims needs at there h lined placed alone_here laid split_alone keeps filled o.name
-            (nests_of.leaf_of a sch l well legal small kept all groups n first line g p claims needs at there h lined placed alone_here laid split_alone keeps filled o m) in
-            subst (λ (z : Turning). (unsigned_abs z.low ≤ 2 ^ 36) × (unsigned_abs z.last ≤ 2 ^ 36)) (sym is) ends)
-        | inr (r, m, is) ↦
-            (let box = range_box r (all_in IsRange ranges r within_here m) in
-            let one = box.0 in
-            let two = box.1 in
-            subst (λ (z : Turning). (unsigned_abs z.low ≤ 2 ^ 36) × (unsigned_abs z.last ≤ 2 ^ 36)) (sym is) (omega (arith, one), omega (arith, two)))
-      ]
-
       -- ---- further upper forms
 
       -- it is so of each loop that is no split's inner one
       pub unlimited : (j : ℕ) (t : Turning) → slice_get ts j ≡ Some t → ((c : Split) → In c cuts → t.name ≡ c.inner → ⊥) → q.limits (m0 + j) ≡ []
       unlimited j t e none = elim (q.bounded j t e) [ inl bare ↦ bare | inr (c, m, tailed, name, f, limit, is) ↦ absurd (none c m name) ]
-
-      -- and of the inner loop of a split that no guard keeps
-      pub unguarded : (c : Split) → In c cuts → is_tailed rs c ≡ false → (j : ℕ) (t : Turning) → slice_get ts j ≡ Some t → t.name ≡ c.inner → q.limits (m0 + j) ≡ []
-      unguarded c m bare j t e name = elim (q.bounded j t e) [
-        | inl none ↦ none
-        | inr (b, mb, tailed, named_so, f, limit, more) ↦
-            (let is : c ≡ b = inners_same cuts others c b m mb (sym name ∙ named_so) in
-            let clash : true ≡ false = sym tailed ∙ ap (is_tailed rs) (sym is) ∙ bare in
-            absurd (cc clash))
-      ]
 
       -- ---- symbols in the scope around the store
 
@@ -386,14 +350,3 @@ module _ (a : Algorithm) (sch : Schedule) (l : Lowered) (well : IsAlgorithm a) (
           let left = left_is (last_number (numbers_named rs c.whole)) (low c.whole) size s (m0 + j) before f
           (ap (λ (v : Form). combined (number (last_number (numbers_named rs c.whole))) (negsuc 0) (without v (m0 + j))) (sym two) ∙ limit.less) in
           left ∙ ap (λ (z : ℕ). left_over (last_number (numbers_named rs c.whole)) (low c.whole) (pos z) s) (sym size_so)
-
-      -- of the loop at this place
-      pub guarded : (c : Split) (m : In c cuts) → (i : ℕ) (t : Turning) → slice_get ts i ≡ Some t → t.name ≡ c.inner → (s : ℕ) → s < m0 + i →
-          ((outer : Form) → Leaf cuts others once rs ls untailed over_grid m0 ts c.outer outer → outer ≡ counted_from (pos 0) s) → (j : ℕ) (u : Turning) → slice_get ts j ≡ Some u → u.name ≡ c.inner →
-          (f : Form) → IsLimit cuts others once rs ls untailed over_grid m0 ts (m0 + j) c f → q.limits (m0 + j) ≡ f ∷ [] →
-          q.limits (m0 + i) ≡ left_over (last_number (numbers_named rs c.whole)) (low c.whole) (pos c.factor) s ∷ []
-      guarded c m i t at_t name s less outer_is j u at_u u_name f limit is =
-          let same_place : j ≡ i = (nests_of.ordered a sch l well legal small kept all groups n first line g p claims needs at there h lined placed alone_here laid split_alone keeps filled d q.body
-          q.at).once c m j i u t at_u at_t u_name name in
-          let left = limit_left c m j f limit s (outer_is limit.outer limit.by_outer) (omega (arith, less, same_place)) in
-          ap (λ (v : ℕ). q.limits (m0 + v)) (sym same_place) ∙ is ∙ ap (λ (v : Form). v ∷ []) left

@@ -1,5 +1,5 @@
--- Loops over numbers, each of one coordinate, which is a form over its loops' symbols: in whatever order the loops are taken away, each coordinate comes to all
--- numbers from its least to its greatest, where the loops of smaller factors together make up the factor of the next.
+-- Loops over numbers, each of one coordinate, which is a form over its loops' symbols: taking away a loop of the least factor takes its numbers into its coordinate
+-- and leaves the others, where the loops of smaller factors together make up the factor of the next.
 use Rattle.std.proofs.Common.{◌≡◌, ℕ, suc, ◌+◌, ◌≤◌, ◌^◌, Bool, true, false, ◌&&◌, ◌||◌, not, List, [], ◌∷◌, ◌++◌, length, map, Option, Some, None}
 use Rattle.std.proofs.Common.{refl, sym, ap, ◌∙◌, subst, inl, inr, ◌⊎◌, arith}
 use Rattle.std.specs.Prelude.{ℤ, pos, ◌+ℤ◌, ◌-ℤ◌, ◌*ℤ◌, ◌≤ℤ◌, int_le, nat_le, ◌==◌, if◌then◌else◌, filter, flat_map, option_and_then}
@@ -15,18 +15,15 @@ use Rattle.lin.specs.Search.{replaced}
 use Rattle.lin.specs.declared.form.Multiple.{Multiple}
 use Rattle.lin.specs.declared.span.Span1.{Span1}
 use Rattle.lin.proofs.Limits.{combined-made, le_true}
-use Rattle.plan.specs.declared.stmt.Pick.TheVariants.{Min}
 use Rattle.soundness.specs.Claims.{In}
 use Rattle.soundness.specs.Obligations.{exactly, form_has, span_has}
 use Rattle.soundness.proofs.Refines.{and_parts, eq_refl, eq_true, number_refl, number_true}
-use Rattle.tails.specs.Moves.{joined, single, only, naming, not_naming, each_replaced, is_positive, is_gapless, is_block, Ready}
-use Rattle.tails.specs.Moves.{first_naming, lower_factor, is_single, is_free_loop, ready, is_before, preferred, best, are_blocks, over_turns, over_loop, taken}
-use Rattle.tails.specs.Moves.{expanded, opened, span_from}
+use Rattle.tails.specs.Moves.{joined, single, only, naming, not_naming, each_replaced, is_positive, is_gapless, is_block}
+use Rattle.tails.specs.Moves.{first_naming, lower_factor, are_blocks, over_turns, over_loop}
+use Rattle.tails.specs.Moves.{expanded, span_from}
 use Rattle.completeness.proofs.GridScope.{number_limited}
 use Rattle.completeness.proofs.PlainTurns.{one_if}
-use Rattle.completeness.proofs.UpdateTurns.{all_mapped}
-use Rattle.completeness.proofs.LoopMoves.{false_end, true_end, or_none, other_way, Item, item_span, item_loop, is_lone, step_by, item_step, is_left, AreApart, One, with_it, picks}
-use Rattle.completeness.proofs.LoopMoves.{choice_of, all_loose, opened_none}
+use Rattle.completeness.proofs.LoopMoves.{false_end, true_end, or_none, other_way, Item, item_span, is_lone, is_left, AreApart, One}
 
 -- ---- booleans and numbers
 
@@ -196,54 +193,6 @@ pub record OneFits (gs : List Target) (ts : List Item) (p : One) : Type 0 where
   pub same : (i : ℕ) → (p.one.symbol == i) ≡ false → is_left i p.others ≡ is_left i ts
   pub fewer : suc (length p.others) ≡ length ts
 
-pub all_picks : (gs : List Target) (ts : List Item) → AreApart ts → AllByRecursion (ItemFits gs) ts → AllByRecursion (OneFits gs ts) (picks ts)
-all_picks gs [] apart fit = tt
-all_picks gs (t ∷ ts) apart fit = (
-  record {
-    here = fit.0;
-    loose = apart.0;
-    apart = apart.1;
-    there = ap (λ (b : Bool). b || is_left t.symbol ts) (eq_refl t.symbol);
-    same = λ i e. sym (ap (λ (b : Bool). b || is_left i ts) e);
-    fewer = refl;
-  },
-  all_mapped (with_it t) (OneFits gs (t ∷ ts)) (picks ts) (each (picks ts) (all_picks gs ts apart.1 fit.1)),
-)
-  where
-    differs : (i : ℕ) → is_left i ts ≡ true → (t.symbol == i) ≡ false
-    differs i e = of (t.symbol == i) refl
-      where
-        of : (b : Bool) → (t.symbol == i) ≡ b → (t.symbol == i) ≡ false
-        of true k =
-            let clash : true ≡ false = sym e ∙ ap (λ (j : ℕ). is_left j ts) (sym (eq_true t.symbol i k)) ∙ apart.0 in
-            absurd (cc clash)
-        of false k = k
-
-    each : (ps : List One) → AllByRecursion (OneFits gs ts) ps → AllByRecursion (λ p. OneFits gs (t ∷ ts) (with_it t p)) ps
-    each [] h = tt
-    each (p ∷ ps) h =
-        let k = h.0 in
-        let away = differs p.one.symbol k.there in (
-          record {
-            here = k.here;
-            loose = (λ i. away i || k.loose i);
-            apart = (k.same t.symbol (other_way t.symbol p.one.symbol away) ∙ apart.0, k.apart);
-            there = ap (λ (b : Bool). (t.symbol == p.one.symbol) || b) k.there ∙ true_end (t.symbol == p.one.symbol);
-            same = λ i e. ap (λ (b : Bool). (t.symbol == i) || b) (k.same i e);
-            fewer = ap suc k.fewer;
-          },
-          each ps h.1,
-        )
-
--- what is so of one of all picks is so of each loop
-pub ones_all : (P : Item → Type 0) (ts : List Item) → AllByRecursion (λ p. P p.one) (picks ts) → AllByRecursion P ts
-ones_all P [] h = tt
-ones_all P (t ∷ ts) h = (h.0, ones_all P ts (back (picks ts) h.1))
-  where
-    back : (ps : List One) → AllByRecursion (λ p. P p.one) (map (with_it t) ps) → AllByRecursion (λ p. P p.one) ps
-    back [] k = tt
-    back (p ∷ ps) k = (k.0, back ps k.1)
-
 -- ---- what coordinates come to, where the symbols count with these factors
 
 module _ (factor : ℕ → ℤ) where
@@ -375,26 +324,6 @@ module _ (factor : ℕ → ℤ) where
         both : (b : Bool) → ((b || false) || (b || false)) ≡ b
         both true = refl
         both false = refl
-
-    pub some_names : (gs : List Target) → AllByRecursion (FitsTo t) gs → AllByRecursion TargetFits gs → 1 ≤ hits_of t.symbol gs → list_any (span_has t.symbol) (map (now ts) gs) ≡ true
-    some_names [] h k some = absurd (omega (arith, some))
-    some_names (g ∷ gs) h k some =
-        ap (λ (b : Bool). b || list_any (span_has t.symbol) (map (now ts) gs)) (names_it g h.0 k.0) ∙ of (is_of t.symbol g) some (λ q. some_names gs h.1 k.1 q)
-      where
-        of : (b : Bool) → 1 ≤ one_if b + hits_of t.symbol gs → (1 ≤ hits_of t.symbol gs → list_any (span_has t.symbol) (map (now ts) gs) ≡ true) →
-            (b || list_any (span_has t.symbol) (map (now ts) gs)) ≡ true
-        of true q rest = refl
-        of false q rest = rest (omega (arith, q))
-
-    pub none_names : (gs : List Target) → AllByRecursion (FitsTo t) gs → AllByRecursion TargetFits gs → hits_of t.symbol gs ≡ 0 → list_any (span_has t.symbol) (map (now ts) gs) ≡ false
-    none_names [] h k none = refl
-    none_names (g ∷ gs) h k none =
-        ap (λ (b : Bool). b || list_any (span_has t.symbol) (map (now ts) gs)) (names_it g h.0 k.0) ∙ of (is_of t.symbol g) none (λ q. none_names gs h.1 k.1 q)
-      where
-        of : (b : Bool) → one_if b + hits_of t.symbol gs ≡ 0 → (hits_of t.symbol gs ≡ 0 → list_any (span_has t.symbol) (map (now ts) gs) ≡ false) →
-            (b || list_any (span_has t.symbol) (map (now ts) gs)) ≡ false
-        of true q rest = absurd (omega (arith, q))
-        of false q rest = rest (omega (arith, q))
 
     -- the factor of the loop's symbol in the first of the lower forms that names it
     abbrev first_of : List Form → Option ℤ
@@ -636,24 +565,9 @@ module _ (factor : ℕ → ℤ) where
       omega (arith, ints, le)
 
   module _ (gs : List Target) (targets : AllByRecursion TargetFits gs) where
-    -- no loop of more turns than one has a smaller factor
-    abbrev pub Least : One → List Item → Type 0
-    Least p ts = AllByRecursion (λ q. is_lone q ≡ false → factor p.one.symbol ≤ℤ factor q.symbol) ts
-
-    -- a loop of a coordinate that is left is one of those that are left
-    pub left_one : (ts : List Item) → AllByRecursion (ItemFits gs) ts → (f : Form) (us : List Item) → In (Sums f us) gs → (u : Item) → In u us → is_left u.symbol ts ≡ true → In u ts
-    left_one ts fit f us m u there left =
-        let q = left_in u.symbol ts left in
-        let fits = of_all (FitsTo q.0) gs (Sums f us) (of_all (ItemFits gs) ts q.0 fit q.1).fits m in
-        let same : (u.symbol == q.0.symbol) ≡ true = ap (λ (i : ℕ). u.symbol == i) (eq_true q.0.symbol u.symbol q.2) ∙ eq_refl u.symbol in
-        subst (λ (v : Item). In v ts) (sym (fits.0 u there same)) q.1
-
     -- so of the loops that are left of the coordinates
     abbrev pub Lowest : One → List Item → Type 0
     Lowest p ts = (f : Form) (us : List Item) → In (Sums f us) gs → (u : Item) → In u us → is_left u.symbol ts ≡ true → is_lone u ≡ false → factor p.one.symbol ≤ℤ factor u.symbol
-
-    pub lowest : (p : One) (ts : List Item) → AllByRecursion (ItemFits gs) ts → Least p ts → Lowest p ts
-    lowest p ts fit least f us m u mu left turns = of_all (λ q. is_lone q ≡ false → factor p.one.symbol ≤ℤ factor q.symbol) ts u least (left_one ts fit f us m u mu left) turns
 
     -- the numbers so far are as many as the factor says
     module _ (ts : List Item) (p : One) (h : OneFits gs ts p) (turns : is_lone p.one ≡ false) (least : Lowest p ts) (f : Form) (us : List Item)
@@ -764,15 +678,6 @@ module _ (factor : ℕ → ℤ) where
     -- ---- the moves
 
     module _ (exact : Bool) (shows : Form → Form → Bool) where
-      rest_now : (ts : List Item) (p : One) → OneFits gs ts p → (hs : List Target) → hits_of p.one.symbol hs ≡ 0 → map (now ts) hs ≡ map (now p.others) hs
-      rest_now ts p h [] none = refl
-      rest_now ts p h (g ∷ hs) none = of (is_of p.one.symbol g) refl none (λ k. rest_now ts p h hs k)
-        where
-          of : (b : Bool) → is_of p.one.symbol g ≡ b → one_if b + hits_of p.one.symbol hs ≡ 0 → (hits_of p.one.symbol hs ≡ 0 → map (now ts) hs ≡ map (now p.others) hs) →
-              now ts g ∷ map (now ts) hs ≡ now p.others g ∷ map (now p.others) hs
-          of true e k rest = absurd (omega (arith, k))
-          of false e k rest = (let here = same_now p ts h.same g e in let more = rest (omega (arith, k)) in λ j. here j ∷ more j)
-
       module _ (ts : List Item) (p : One) (h : OneFits gs ts p) where
         -- the one coordinate comes to its numbers
         pub taken_one : is_lone p.one ≡ false → Lowest p ts → (g : Target) → In g gs → InOrder ts g → is_of p.one.symbol g ≡ true →
@@ -781,154 +686,7 @@ module _ (factor : ℕ → ℤ) where
         taken_one turns least (Sums f us) m order e =
             over_is p ts h.same h.loose h.there h.here.near h.here.last_near f us (of_all (FitsTo p.one) gs (Sums f us) h.here.fits m) (of_all TargetFits gs (Sums f us) targets m) e exact shows
             (wide_is ts p h turns least f us m order e)
-
-        pub taken_is : is_lone p.one ≡ false → Lowest p ts → (hs : List Target) → ((g : Target) → In g hs → In g gs) → AllByRecursion (FitsTo p.one) hs → AllByRecursion TargetFits hs →
-            AllByRecursion (InOrder ts) hs → hits_of p.one.symbol hs ≡ 1 → taken exact shows p.one.symbol (item_span p.one) (map (now ts) hs) ≡ Some (map (now p.others) hs)
-        taken_is turns least [] sub fits sums order once = absurd (omega (arith, once))
-        taken_is turns least (g ∷ hs) sub fits sums order once =
-            of (is_of p.one.symbol g) refl once (λ k. taken_is turns least hs (λ x m. sub x (inr m)) fits.1 sums.1 order.1 k)
-          where
-            of : (b : Bool) → is_of p.one.symbol g ≡ b → one_if b + hits_of p.one.symbol hs ≡ 1 →
-                (hits_of p.one.symbol hs ≡ 1 → taken exact shows p.one.symbol (item_span p.one) (map (now ts) hs) ≡ Some (map (now p.others) hs)) →
-                taken exact shows p.one.symbol (item_span p.one) (now ts g ∷ map (now ts) hs) ≡ Some (now p.others g ∷ map (now p.others) hs)
-            of true e k rest =
-                let none : hits_of p.one.symbol hs ≡ 0 = omega (arith, k) in
-                let named = names_it ts p.one h.there g fits.0 sums.0 ∙ e in
-                let others = none_names ts p.one h.there hs fits.1 sums.1 none in
-                let over = taken_one turns least g (sub g (inl refl)) order.0 e in
-                let more = rest_now ts p h hs none in
-                (λ j. if named j then (if others j then None else option_map (λ z. z ∷ map (now ts) hs) (over j))
-                else option_map (λ zs. now ts g ∷ zs) (taken exact shows p.one.symbol (item_span p.one) (map (now ts) hs)))
-                ∙ ap (λ (zs : List Span1). Some (now p.others g ∷ zs)) more
-            of false e k rest =
-                let named = names_it ts p.one h.there g fits.0 sums.0 ∙ e in
-                let here = same_now p ts h.same g e in
-                let more = rest (omega (arith, k)) in
-                ap (λ (b : Bool). if b then (if list_any (span_has p.one.symbol) (map (now ts) hs) then None else option_map (λ z. z ∷ map (now ts) hs)
-                (over_loop exact shows p.one.symbol (item_span p.one) (now ts g)))
-                else option_map (λ zs. now ts g ∷ zs) (taken exact shows p.one.symbol (item_span p.one) (map (now ts) hs))) named
-                ∙ (λ j. option_map (λ zs. here j ∷ zs) (more j))
-
-        -- ---- loops of more turns than one
-
-        abbrev pub ready_of : Ready
-        ready_of = record { symbol = p.one.symbol; span = item_span p.one; others = map item_step p.others; factor = factor p.one.symbol; is_single = is_single (item_span p.one) }
-
-        pub is_ready : ready (map (now ts) gs) (item_loop p.one) (map item_step p.others) ≡ Some ready_of
-        is_ready =
-            let once = h.here.once in
-            let found = found_factor ts p.one h.there gs h.here.fits targets (omega (arith, once)) in
-            let loose = all_loose p.one.symbol p.others h.loose in
-            let free : is_free_loop p.one.symbol (item_span p.one) (map item_step p.others) ≡ true = ap (λ (b : Bool). b && true) loose in
-            (λ j. if free j then option_map (λ n. record { symbol = p.one.symbol; span = item_span p.one; others = map item_step p.others; factor = n; is_single = is_single (item_span p.one) })
-            (found j) else None)
-
         -- ---- lets alone
-
-        pub opened_all : is_lone p.one ≡ true → (hs : List Target) → ((g : Target) → In g hs → In g gs) → AllByRecursion (FitsTo p.one) hs → AllByRecursion TargetFits hs →
-            opened exact shows p.one.symbol Min (number p.one.low ∷ []) (map (now ts) hs) ≡ Some (map (now p.others) hs)
-        opened_all lone [] sub fits sums = refl
-        opened_all lone (g ∷ hs) sub fits sums = of g fits.0 sums.0 (is_of p.one.symbol g) refl (opened_all lone hs (λ x m. sub x (inr m)) fits.1 sums.1)
-          where
-            here_is : (g : Target) → span_from (expanded exact shows p.one.symbol (number p.one.low ∷ []) (now ts g).lower)
-                (expanded exact shows p.one.symbol (number p.one.low ∷ []) (now ts g).upper) ≡ Some (now p.others g) →
-                opened exact shows p.one.symbol Min (number p.one.low ∷ []) (map (now ts) hs) ≡ Some (map (now p.others) hs) →
-                opened exact shows p.one.symbol Min (number p.one.low ∷ []) (now ts g ∷ map (now ts) hs) ≡ Some (now p.others g ∷ map (now p.others) hs)
-            here_is g one rest = λ j. joined (single (one j)) (rest j)
-
-            of : (g : Target) → FitsTo p.one g → TargetFits g → (b : Bool) → is_of p.one.symbol g ≡ b →
-                opened exact shows p.one.symbol Min (number p.one.low ∷ []) (map (now ts) hs) ≡ Some (map (now p.others) hs) →
-                opened exact shows p.one.symbol Min (number p.one.low ∷ []) (now ts g ∷ map (now ts) hs) ≡ Some (now p.others g ∷ map (now p.others) hs)
-            of (Kept y) k sum true e rest = absurd (cc e)
-            of (Sums f us) k sum true e rest =
-                here_is (Sums f us) (opened_is p ts h.same h.loose h.there h.here.near h.here.last_near f us k sum e exact shows lone) rest
-            of g k sum false e rest =
-                let named = names_it ts p.one h.there g k sum ∙ e in
-                let parts = or_none (list_any (form_has p.one.symbol) (now ts g).lower) (list_any (form_has p.one.symbol) (now ts g).upper) named in
-                let lower = opened_none exact shows p.one.symbol (number p.one.low ∷ []) (now ts g).lower parts.0 in
-                let upper = opened_none exact shows p.one.symbol (number p.one.low ∷ []) (now ts g).upper parts.1 in
-                let same = same_now p ts h.same g e in
-                here_is g ((λ j. span_from (lower j) (upper j)) ∙ ap (λ (y : Span1). Some y) same) rest
-
-      abbrev pub ready_as : One → Ready
-      ready_as p = record { symbol = p.one.symbol; span = item_span p.one; others = map item_step p.others; factor = factor p.one.symbol; is_single = is_single (item_span p.one) }
-
-      -- none is ready, or one of them, of which none has a smaller factor
-      abbrev pub LeastOf : One → List One → Type 0
-      LeastOf p ps = AllByRecursion (λ r. is_lone r.one ≡ false → factor p.one.symbol ≤ℤ factor r.one.symbol) ps
-
-      abbrev pub BestIs : List Item → List One → Option Ready → Type 0
-      BestIs ts ps o =
-          ((o ≡ None) × AllByRecursion (λ p. is_lone p.one ≡ true) ps)
-          ⊎ ((p : One) × (o ≡ Some (ready_as p)) × OneFits gs ts p × (is_lone p.one ≡ false) × LeastOf p ps)
-
-      pub best_is : (ts : List Item) → AllByRecursion (ItemFits gs) ts → (ps : List One) → AllByRecursion (OneFits gs ts) ps → BestIs ts ps (best (map (now ts) gs) (map choice_of ps))
-      best_is ts fit [] h = inl (refl, tt)
-      best_is ts fit (p ∷ ps) h = of (is_lone p.one) refl (best_is ts fit ps h.1)
-        where
-          mine : Option Ready
-          mine = ready (map (now ts) gs) (item_step p.one) (map item_step p.others)
-
-          rest_of : Option Ready
-          rest_of = best (map (now ts) gs) (map choice_of ps)
-
-          itself : (z : ℤ) → z ≤ℤ z
-          itself z = omega (arith, ints)
-
-          further : (a b d : ℤ) → a ≤ℤ b → b ≤ℤ d → a ≤ℤ d
-          further a b d one two = omega (arith, ints, one, two)
-
-          lone_ones : (qs : List One) → AllByRecursion (λ q. is_lone q.one ≡ true) qs → LeastOf p qs
-          lone_ones [] k = tt
-          lone_ones (q ∷ qs) k = ((λ e. let clash : true ≡ false = sym k.0 ∙ e in absurd (cc clash)), lone_ones qs k.1)
-
-          farther : (q : One) → factor p.one.symbol ≤ℤ factor q.one.symbol → (qs : List One) → LeastOf q qs → LeastOf p qs
-          farther q le [] k = tt
-          farther q le (r ∷ qs) k = ((λ e. further (factor p.one.symbol) (factor q.one.symbol) (factor r.one.symbol) le (k.0 e)), farther q le qs k.1)
-
-          by : is_lone p.one ≡ false → mine ≡ Some (ready_as p) → BestIs ts ps rest_of → BestIs ts (p ∷ ps) (preferred mine rest_of)
-          by turns e (inl q) = inr (p, (λ j. preferred (e j) (q.0 j)), h.0, turns, ((λ k. itself (factor p.one.symbol)), lone_ones ps q.1))
-          by turns e (inr q) = two (is_before (ready_as q.0) (ready_as p)) refl
-            where
-              singly : Bool
-              singly = is_single (item_span q.0.one)
-
-              own : Bool
-              own = is_single (item_span p.one)
-
-              two : (b : Bool) → is_before (ready_as q.0) (ready_as p) ≡ b → BestIs ts (p ∷ ps) (preferred mine rest_of)
-              two true k = inr (
-                q.0,
-                (λ j. preferred (e j) (q.1 j)) ∙ ap (λ (b : Bool). if b then Some (ready_as q.0) else Some (ready_as p)) k,
-                q.2,
-                q.3,
-                ((λ turned. before_le (factor p.one.symbol) (factor q.0.one.symbol) singly own k), q.4),
-              )
-              two false k = inr (
-                p,
-                (λ j. preferred (e j) (q.1 j)) ∙ ap (λ (b : Bool). if b then Some (ready_as q.0) else Some (ready_as p)) k,
-                h.0,
-                turns,
-                ((λ turned. itself (factor p.one.symbol)), farther q.0 (not_before (factor p.one.symbol) (factor q.0.one.symbol) singly own k) ps q.4),
-              )
-
-          of : (b : Bool) → is_lone p.one ≡ b → BestIs ts ps rest_of → BestIs ts (p ∷ ps) (preferred mine rest_of)
-          of true e (inl q) =
-              inl ((λ j. preferred (ready (map (now ts) gs) (step_by (e j) p.one) (map item_step p.others)) (q.0 j)), (e, q.1))
-          of true e (inr q) =
-              let none : mine ≡ None = ap (λ (b : Bool). ready (map (now ts) gs) (step_by b p.one) (map item_step p.others)) e in
-              inr (q.0, ap (λ (o : Option Ready). preferred o rest_of) none ∙ q.1, q.2, q.3, ((λ turned. let clash : true ≡ false = sym e ∙ turned in absurd (cc clash)), q.4))
-          of false e rest =
-              by e (ap (λ (b : Bool). ready (map (now ts) gs) (step_by b p.one) (map item_step p.others)) e ∙ is_ready ts p h.0) rest
-
-    -- before any loop is taken away none is gone
-    pub all_in_order : (ts : List Item) → (hs : List Target) → AllByRecursion (λ g. (i : ℕ) → is_of i g ≡ true → is_left i ts ≡ true) hs → AllByRecursion (InOrder ts) hs
-    all_in_order ts [] h = tt
-    all_in_order ts (Kept y ∷ hs) h = (tt, all_in_order ts hs h.1)
-    all_in_order ts (Sums f us ∷ hs) h = (
-      (λ u v mu mv one two gone left. let clash : true ≡ false = sym (h.0 u.symbol (in_left u us mu)) ∙ gone in absurd (cc clash)),
-      all_in_order ts hs h.1,
-    )
 
   -- nothing is added where all are left
   pub none_added : (e : Item → ℤ) (ts us : List Item) → AllByRecursion (λ u. is_left u.symbol ts ≡ true) us → added e ts us ≡ pos 0

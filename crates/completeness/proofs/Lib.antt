@@ -93,7 +93,6 @@ pub mod StoreBounds
 pub mod LoopMoves
 pub mod GridTurns
 pub mod SplitTests
-pub mod SplitPlaces
 pub mod TakenSites
 pub mod UnderWay
 pub mod Boxes
@@ -124,7 +123,6 @@ pub mod NamesRead
 pub mod StoreLists
 pub mod BlockMoves
 pub mod BlockTurns
-pub mod BlockTests
 pub mod BlockSums
 pub mod BlockBounds
 pub mod BlockDims

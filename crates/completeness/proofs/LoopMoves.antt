@@ -1,5 +1,5 @@
 -- Loops over numbers, and the choices among them of one that is taken away.
-use Rattle.std.proofs.Common.{◌≡◌, ℕ, Bool, true, false, ◌&&◌, ◌||◌, not, List, [], ◌∷◌, map, Option, Some, None}
+use Rattle.std.proofs.Common.{◌≡◌, ℕ, Bool, true, false, ◌&&◌, ◌||◌, List, [], ◌∷◌, map, Option, Some, None}
 use Rattle.std.proofs.Common.{refl, sym, ap, ◌∙◌}
 use Rattle.std.specs.Prelude.{ℤ, pos, int_le, ◌==◌, if◌then◌else◌}
 use Rattle.std.specs.List.{AllByRecursion, list_any}
@@ -7,10 +7,10 @@ use Rattle.lin.specs.Forms.{Form, number, factor_of, same_form}
 use Rattle.lin.specs.declared.span.Span1.{Span1}
 use Rattle.plan.specs.declared.stmt.Pick.TheVariants.{Min}
 use Rattle.plan.specs.Semantics.Setting.{or_else}
-use Rattle.soundness.specs.Obligations.{Binder, Ranged, Picked, form_has, binder_has}
+use Rattle.soundness.specs.Obligations.{Binder, Ranged, Picked, form_has}
 use Rattle.soundness.proofs.Refines.{eq_refl, eq_true}
 use Rattle.sched.specs.Skeleton.{span}
-use Rattle.tails.specs.Moves.{Choice, first_some, joined, each_replaced, is_loose}
+use Rattle.tails.specs.Moves.{first_some, joined, each_replaced}
 use Rattle.tails.specs.Moves.{expanded}
 
 -- ---- booleans
@@ -22,10 +22,6 @@ false_end false = refl
 pub true_end : (b : Bool) → (b || true) ≡ true
 true_end true = refl
 true_end false = refl
-
-pub same_end : (b : Bool) → (b || false) ≡ b
-same_end true = refl
-same_end false = refl
 
 pub or_none : (a b : Bool) → (a || b) ≡ false → (a ≡ false) × (b ≡ false)
 or_none true b e = absurd (cc e)
@@ -50,13 +46,6 @@ pub record Item : Type 0 where
 
 abbrev pub item_span : Item → Span1
 item_span t = span t.low t.last []
-
-abbrev pub item_loop : Item → Binder
-item_loop t = Ranged t.symbol (item_span t)
-
--- with the further upper forms of its symbol
-abbrev pub limited_loop : (ℕ → List Form) → Item → Binder
-limited_loop lim t = Ranged t.symbol (span t.low t.last (lim t.symbol))
 
 -- a loop of one turn is a let
 abbrev pub is_lone : Item → Bool
@@ -89,35 +78,11 @@ abbrev pub picks : List Item → List One
 picks [] = []
 picks (t ∷ ts) = record { one = t; others = ts } ∷ map (with_it t) (picks ts)
 
-abbrev pub choice_of : One → Choice
-choice_of p = record { one = item_step p.one; others = map item_step p.others }
-
--- ---- what the spans name
-
-pub all_loose : (i : ℕ) (ts : List Item) → is_left i ts ≡ false → is_loose i (map item_step ts) ≡ true
-all_loose i ts e = ap not (of ts e)
-  where
-    one : (t : Item) (b : Bool) → binder_has i (step_by b t) ≡ (t.symbol == i)
-    one t true = same_end (t.symbol == i)
-    one t false = same_end (t.symbol == i)
-
-    of : (ts : List Item) → is_left i ts ≡ false → list_any (binder_has i) (map item_step ts) ≡ false
-    of [] k = refl
-    of (t ∷ ts) k =
-        let parts = or_none (t.symbol == i) (is_left i ts) k in
-        let here = one t (is_lone t) ∙ parts.0 in
-        let rest = of ts parts.1 in
-        λ j. here j || rest j
-
--- ---- no guard, and no idle let
+-- ---- nothing is found
 
 pub none_first : {A B : Type 0} (f : A → Option B) (xs : List A) → AllByRecursion (λ x. f x ≡ None) xs → first_some f xs ≡ None
 none_first f [] h = refl
 none_first f (x ∷ xs) h = (let here = h.0 in let rest = none_first f xs h.1 in λ i. or_else (here i) (rest i))
-
-pub all_true : {A : Type 0} (P Q : A → Type 0) → ((x : A) → P x → Q x) → (xs : List A) → AllByRecursion P xs → AllByRecursion Q xs
-all_true P Q f [] h = tt
-all_true P Q f (x ∷ xs) h = (f x h.0, all_true P Q f xs h.1)
 
 -- ---- the moves
 

@@ -36,7 +36,7 @@ use Rattle.completeness.proofs.CertLimits.{own_group}
 use Rattle.completeness.proofs.Counts.{functions_few}
 use Rattle.completeness.proofs.FewLines.{body_small, bodies_long, lines_many}
 use Rattle.completeness.proofs.GroupTexts.{group_texts}
-use Rattle.completeness.proofs.NumberClaims.{IsClaimSmall, IsNeedNumbered, IsBodySmall, body_claims}
+use Rattle.completeness.proofs.NumberClaims.{IsClaimSmall, IsNeedNumbered, body_claims}
 use Rattle.completeness.proofs.NumberLines.{both, less}
 use Rattle.completeness.proofs.Owned.{some_same, own_found}
 use Rattle.completeness.proofs.Served.{roots, made_at}
@@ -97,9 +97,6 @@ module _ (a : Algorithm) (sch : Schedule) (l : Lowered) (well : IsAlgorithm a) (
 
   abbrev entries : List Entry
   entries = roots a sch l well legal small kept all groups
-
-  abbrev IsSmall : ℕ → List CodeClaim → List Need → Type 0
-  IsSmall n claims needs = IsBodySmall a sch l well legal small kept all groups once n claims needs
 
   -- of the groups from the number n on, which are so many before 64
   record AreSmall (r : ℕ) (claims : List CodeClaim) (needs : List Need) : Type 0 where

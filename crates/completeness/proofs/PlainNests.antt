@@ -1,29 +1,17 @@
--- Which loops the steps of a nest have, and the forms that the names of parallel loops stand for.
-use Rattle.std.proofs.Common.{◌≡◌, ℕ, suc, ◌+◌, Bool, true, false, ◌||◌, List, [], ◌∷◌, Some, refl, sym, ap, ◌∙◌, ◌⊎◌, arith}
+-- The forms that the names of parallel loops stand for.
+use Rattle.std.proofs.Common.{◌≡◌, ℕ, suc, ◌+◌, Bool, true, false, ◌||◌, List, [], ◌∷◌, Some, refl, sym, ap, ◌∙◌, arith}
 use Rattle.std.specs.Prelude.{find, if◌then◌else◌, slice_get}
 use Rattle.std.specs.Option.{option_map}
 use Rattle.lin.specs.Forms.{Form}
-use Rattle.lin.specs.declared.span.Span1.{Span1}
 use Rattle.meaning.specs.Names.{same_name}
 use Rattle.soundness.proofs.Refines.{name_true}
 use Rattle.sched.specs.declared.numbers.Numbers.{Numbers}
 use Rattle.sched.specs.declared.placing.Loop.{Loop}
 use Rattle.sched.specs.declared.skeleton.Known.{Known}
-use Rattle.sched.specs.declared.skeleton.Step.{Step}
-use Rattle.sched.specs.declared.skeleton.Step.TheVariants.{Turns, Named, Tested}
 use Rattle.sched.specs.Numbers.{numbers_named, grid_counts}
 use Rattle.sched.specs.Placing.{has_loop}
 use Rattle.sched.specs.Standing.{form_named, counted_from}
 use Rattle.sched.specs.Skeleton.{grid_forms}
-
--- ---- loops that the steps have
-
--- a loop of this symbol over this span is one of the steps
-abbrev pub InSteps : ℕ → Span1 → List Step → Type 0
-InSteps i x [] = ⊥
-InSteps i x (Turns j y kind ∷ ts) = ((i ≡ j) × (x ≡ y)) ⊎ InSteps i x ts
-InSteps i x (Named j pick fs ∷ ts) = InSteps i x ts
-InSteps i x (Tested low high ∷ ts) = InSteps i x ts
 
 -- ---- what is found by name
 

@@ -1,26 +1,18 @@
 -- The loops of a nest, and what its binders tell of them.
-use Rattle.std.proofs.Common.{◌≡◌, ℕ, zero, suc, ◌+◌, ◌<◌, ◌≤◌, Bool, true, false, ◌||◌, List, [], ◌∷◌, length, map, Some}
+use Rattle.std.proofs.Common.{◌≡◌, ℕ, zero, suc, ◌+◌, ◌<◌, ◌≤◌, Bool, true, false, List, [], ◌∷◌, length, map, Some}
 use Rattle.std.proofs.Common.{refl, sym, ap, ◌∙◌, arith}
-use Rattle.std.specs.Prelude.{◌==◌, if◌then◌else◌, slice_get}
+use Rattle.std.specs.Prelude.{◌==◌, slice_get}
 use Rattle.std.specs.List.{range_with_len}
-use Rattle.std.proofs.lemmas.Bool.Decides.{nat_tests}
 use Rattle.lin.specs.Forms.{Form}
 use Rattle.lin.specs.declared.scope.Binding.{Binding}
-use Rattle.lin.specs.declared.scope.Binding.TheVariants.{Loop as Bound}
 use Rattle.plan.specs.Plan.{At, Coordinate}
-use Rattle.tree.specs.Term.{Term}
 use Rattle.meaning.specs.Names.{same_name}
-use Rattle.soundness.specs.Claims.{block_changes}
-use Rattle.soundness.specs.Obligations.{Binder, Ranged}
 use Rattle.soundness.specs.Nests.Nest.{Loop, index_is, is_symbol}
-use Rattle.soundness.specs.Nests.Tests.{binders_in}
 use Rattle.soundness.proofs.Refines.{eq_refl, eq_true, name_refl, name_true}
-use Rattle.rules.specs.Bounding.Scopes.{limited, binding_of, symbol_count}
 use Rattle.sched.specs.declared.nest.Turning.{Turning}
 use Rattle.sched.specs.Standing.{alone}
 use Rattle.sched.specs.Skeleton.{span}
-use Rattle.completeness.proofs.NestWalk.{down}
-use Rattle.completeness.proofs.PlainTurns.{limited_for, hits, turn_name, found_at, found_name, found_there}
+use Rattle.completeness.proofs.PlainTurns.{hits, turn_name, found_at, found_name, found_there}
 
 -- ---- the nest
 
@@ -28,11 +20,6 @@ use Rattle.completeness.proofs.PlainTurns.{limited_for, hits, turn_name, found_a
 abbrev pub limited_loops : (ℕ → List Form) → ℕ → List Turning → List Loop
 limited_loops lim n [] = []
 limited_loops lim n (t ∷ ts) = record { symbol = n; span = span t.low t.last (lim n) } ∷ limited_loops lim (n + 1) ts
-
-module _ (lim : ℕ → List Form) (d : ℕ) (at : List Coordinate) (e : Term) where
-  pub down_changes : (n : ℕ) (ts : List Turning) → block_changes (down 0 d at e (limited_for lim n ts)) 0 ≡ true
-  down_changes n [] = refl
-  down_changes n (t ∷ ts) = ap (λ (b : Bool). b || false) (down_changes (n + 1) ts)
 
 -- ---- coordinates
 
@@ -69,38 +56,6 @@ module _ (n : ℕ) (ts : List Turning) (few : (y : List ℕ) → hits turn_name 
     here_is c x r = symbol_is c (n + r.0) (n + j) r.2 ∙ hit_is x r.0 j t r.1 at
 
 -- ---- binders
-
-module _ (lim : ℕ → List Form) where
-  pub skips : (n : ℕ) (ts : List Turning) (bs : List Binder) (s : ℕ) → s < n → binding_of (binders_in (limited_loops lim n ts) bs) s ≡ binding_of bs s
-  skips n [] bs s less = refl
-  skips n (t ∷ ts) bs s less =
-      let differs : (n == s) ≡ false = grind (arith, nat_tests) in
-      skips (n + 1) ts (Ranged n (span t.low t.last (lim n)) ∷ bs) s (omega (arith, less))
-      ∙ ap (λ (b : Bool). if b then Bound (limited (span t.low t.last (lim n))) else binding_of bs s) differs
-
-  pub tells : (n : ℕ) (ts : List Turning) (bs : List Binder) (j : ℕ) (t : Turning) → slice_get ts j ≡ Some t →
-      binding_of (binders_in (limited_loops lim n ts) bs) (n + j) ≡ Bound (limited (span t.low t.last (lim (n + j))))
-  tells n [] bs j t at = absurd (cc at)
-  tells n (u ∷ ts) bs zero t at =
-      let is : u ≡ t = cc at in
-      let none : n + 0 ≡ n = omega arith in
-      ap (binding_of (binders_in (limited_loops lim (n + 1) ts) (Ranged n (span u.low u.last (lim n)) ∷ bs))) none
-      ∙ skips (n + 1) ts (Ranged n (span u.low u.last (lim n)) ∷ bs) n (omega arith)
-      ∙ ap (λ (b : Bool). if b then Bound (limited (span u.low u.last (lim n))) else binding_of bs n) (eq_refl n) ∙ ap (λ (v : Turning). Bound (limited (span v.low v.last (lim n)))) is
-      ∙ ap (λ (m : ℕ). Bound (limited (span t.low t.last (lim m)))) (sym none)
-  tells n (u ∷ ts) bs (suc j) t at =
-      let next : n + suc j ≡ (n + 1) + j = omega arith in
-      ap (binding_of (binders_in (limited_loops lim (n + 1) ts) (Ranged n (span u.low u.last (lim n)) ∷ bs))) next
-      ∙ tells (n + 1) ts (Ranged n (span u.low u.last (lim n)) ∷ bs) j t at ∙ ap (λ (m : ℕ). Bound (limited (span t.low t.last (lim m)))) (sym next)
-
-  pub count_more : (n : ℕ) (ts : List Turning) (bs : List Binder) → symbol_count bs ≤ symbol_count (binders_in (limited_loops lim n ts) bs)
-  count_more n [] bs = omega arith
-  count_more n (t ∷ ts) bs = (let rest = count_more (n + 1) ts (Ranged n (span t.low t.last (lim n)) ∷ bs) in omega (arith, rest))
-
-  pub count_there : (n : ℕ) (ts : List Turning) (bs : List Binder) (j : ℕ) (t : Turning) → slice_get ts j ≡ Some t → n + j < symbol_count (binders_in (limited_loops lim n ts) bs)
-  count_there n [] bs j t at = absurd (cc at)
-  count_there n (u ∷ ts) bs zero t at = (let rest = count_more (n + 1) ts (Ranged n (span u.low u.last (lim n)) ∷ bs) in omega (arith, rest))
-  count_there n (u ∷ ts) bs (suc j) t at = (let rest = count_there (n + 1) ts (Ranged n (span u.low u.last (lim n)) ∷ bs) j t at in omega (arith, rest))
 
 pub at_place : (f : ℕ → Binding) (a k n : ℕ) → n < k → slice_get (map f (range_with_len a k)) n ≡ Some (f (a + n))
 at_place f a zero n less = absurd (omega (arith, less))

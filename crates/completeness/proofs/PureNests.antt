@@ -1,5 +1,5 @@
 -- Lists of loops, names and steps, as nests of functions whose loops are not split have them.
-use Rattle.std.proofs.Common.{◌≡◌, ℕ, zero, suc, ◌+◌, ◌≤◌, Bool, true, List, [], ◌∷◌, ◌++◌, length, map}
+use Rattle.std.proofs.Common.{◌≡◌, ℕ, zero, suc, ◌+◌, ◌≤◌, Bool, true, List, [], ◌∷◌, length, map}
 use Rattle.std.proofs.Common.{Option, Some, None, refl, sym, ap, ◌∙◌, subst, inl, inr, arith}
 use Rattle.std.specs.Prelude.{reverse, slice_get}
 use Rattle.std.specs.List.{AllByRecursion}
@@ -7,7 +7,6 @@ use Rattle.std.proofs.lemmas.List.{reverse-append}
 use Rattle.tree.specs.Term.{Term}
 use Rattle.bounds.proofs.ListSound.{all-append}
 use Rattle.lin.specs.Forms.{Form}
-use Rattle.plan.specs.declared.stmt.Pick.{Pick}
 use Rattle.plan.specs.Plan.{Index, At, Found}
 use Rattle.meaning.specs.Algorithm.{Change, Algorithm}
 use Rattle.meaning.specs.Names.{same_name}
@@ -15,8 +14,6 @@ use Rattle.soundness.specs.Claims.{In}
 use Rattle.soundness.proofs.Refines.{name_refl}
 use Rattle.sched.specs.declared.placing.Loop.{Loop}
 use Rattle.sched.specs.declared.numbers.Numbers.{Numbers}
-use Rattle.sched.specs.declared.skeleton.Step.{Step}
-use Rattle.sched.specs.declared.skeleton.Step.TheVariants.{Turns, Named, Tested}
 use Rattle.sched.specs.declared.nest.Turning.{Turning}
 use Rattle.sched.specs.Standing.{◌>>=◌}
 use Rattle.sched.specs.Skeleton.{loop_turning}
@@ -25,9 +22,7 @@ use Rattle.lower.specs.Regions.{missing_from}
 use Rattle.lower.specs.Loading.{Loads}
 use Rattle.lower.specs.Bodies.{IsIndex}
 use Rattle.lower.proofs.Laying.{bound, same}
-use Rattle.completeness.proofs.Standing.{AreLets}
-use Rattle.completeness.proofs.NestWalk.{IsRest, LetsFirst}
-use Rattle.completeness.proofs.PlainTurns.{limited_for, one_if, hits}
+use Rattle.completeness.proofs.PlainTurns.{one_if, hits}
 use Rattle.completeness.proofs.PlainTurns.{itself, turn_name}
 
 -- ---- lists
@@ -126,22 +121,3 @@ at_most_all xs (t ∷ ts) h = (let here = total_one xs t ts h.0 in let rest = at
 pub all_once : (xs : List (List ℕ)) (ts : List Turning) → ((y : List ℕ) → hits turn_name y ts ≤ 1) → total xs ts ≤ length xs
 all_once [] ts few = omega arith
 all_once (x ∷ xs) ts few = (let here = few x in let rest = all_once xs ts few in omega (arith, here, rest))
-
--- ---- steps
-
-pub first_steps : (lim : ℕ → List Form) (n : ℕ) (ts : List Turning) (all part : List Step) → all ≡ limited_for lim n ts → IsRest all part → part ≡ limited_for lim n ts
-first_steps lim n ts all part e h = of h.lets h.are (sym e ∙ h.is)
-  where
-    of : (ls : List Step) → AreLets ls → limited_for lim n ts ≡ ls ++ part → part ≡ limited_for lim n ts
-    of [] are q = sym q
-    of (Turns i x kind ∷ ls) are q = absurd are
-    of (Named i pick fs ∷ ls) are q = absurd (none n ts q)
-      where
-        none : (n : ℕ) (ts : List Turning) → limited_for lim n ts ≡ Named i pick fs ∷ (ls ++ part) → ⊥
-        none n [] p = cc p
-        none n (t ∷ ts) p = cc p
-    of (Tested low high ∷ ls) are q = absurd are
-
-pub no_lets : (L : ℕ → Pick → List Form → Type 0) (lim : ℕ → List Form) (n : ℕ) (ts : List Turning) → LetsFirst L (limited_for lim n ts)
-no_lets L lim n [] = tt
-no_lets L lim n (t ∷ ts) = tt

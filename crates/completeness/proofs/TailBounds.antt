@@ -1,8 +1,8 @@
 -- At a nest's store the search finds that the coordinates of split loops lie in their places, also where a let stands behind a guard.
-use Rattle.std.proofs.Common.{◌≡◌, ℕ, zero, suc, ◌+◌, ◌-◌, ◌*◌, ◌<◌, ◌≤◌, ◌^◌, Bool, true, false, ◌&&◌, ◌||◌, not, List, [], ◌∷◌, ◌++◌, length, Option, Some, None, refl, sym, ap, ◌∙◌, subst, arith}
+use Rattle.std.proofs.Common.{◌≡◌, ℕ, zero, suc, ◌+◌, ◌-◌, ◌*◌, ◌<◌, ◌≤◌, ◌^◌, Bool, true, false, ◌&&◌, ◌||◌, not, List, [], ◌∷◌, ◌++◌, length, Some, refl, sym, ap, ◌∙◌, subst, arith}
 use Rattle.std.specs.Prelude.{ℤ, pos, negsuc, ◌+ℤ◌, ◌-ℤ◌, ◌*ℤ◌, ◌≤ℤ◌, nat_lt, ◌==◌, if◌then◌else◌, min, slice_get}
 use Rattle.std.specs.Int.RustNames.{unsigned_abs}
-use Rattle.std.specs.List.{AllByRecursion, list_all}
+use Rattle.std.specs.List.{list_all}
 use Rattle.std.proofs.Math.Nat.{mul-suc}
 use Rattle.std.proofs.lemmas.Bool.Decides.{nat_tests}
 use Rattle.std.proofs.lemmas.Int.{ints}
@@ -15,16 +15,13 @@ use Rattle.lin.proofs.Limits.{combined-made}
 use Rattle.plan.specs.declared.stmt.Places.TheVariants.{From}
 use Rattle.soundness.specs.Obligations.{Binder, Rules, anything, exactly}
 use Rattle.soundness.specs.Shown.{raised, is_seated}
-use Rattle.soundness.specs.Binders.View.{grid_binders}
 use Rattle.rules.specs.Bounding.Scopes.{most_symbols, limited, binding_of, symbol_count, scope_of, shown_at_most}
 use Rattle.sched.specs.declared.nest.Turning.{Turning}
 use Rattle.sched.specs.Standing.{alone}
 use Rattle.sched.specs.Skeleton.{span}
-use Rattle.lower.specs.Around.{grid_symbol}
 use Rattle.tails.specs.Steps.{along}
 use Rattle.tails.specs.Apart.{is_steady}
-use Rattle.completeness.proofs.GridCounts.{IsShort}
-use Rattle.completeness.proofs.GridScope.{number_limited, grid_tells}
+use Rattle.completeness.proofs.GridScope.{number_limited}
 use Rattle.completeness.proofs.SelfBounds.{form_self}
 use Rattle.completeness.proofs.PlainBounds.{loop_above, loop_below}
 use Rattle.completeness.proofs.PlainTests.{at_place, scope_long, at_length}
@@ -537,29 +534,3 @@ module _ (line : ℕ → Line) (lim : ℕ → List Form) (n : ℕ) (ts : List Tu
   -- the origin of a block's places is over the grid
   pub steady_one : (z c : ℤ) (s m : ℕ) → s < n → is_steady false (along (lines_of line lim n ts)) (From (one_of z c s) m) ≡ true
   steady_one z c s m less = (let none = none_along line lim s n ts less in λ j. not (none j) && true)
-
--- a symbol of the grid is known there
-pub grid_there : (line : ℕ → Line) (lim : ℕ → List Form) (n : ℕ) (ts : List Turning) → n + length ts ≤ most_symbols → (counts : List ℕ) → AllByRecursion IsShort counts → length counts ≤ n → (s : ℕ) →
-    s < length counts →
-    (m : ℕ) × (slice_get (scope_of (along (lines_of line lim n ts) ++ grid_binders counts)) s ≡ Some (grid_symbol m))
-grid_there line lim n ts short counts few behind s inside = of (slice_get counts s) refl
-  where
-    plain : List Binder
-    plain = inner_of line lim n ts (grid_binders counts)
-
-    within : s < min (symbol_count plain) most_symbols
-    within = (let many = (grid_tells counts few).many in let more = count_more line lim n ts (grid_binders counts) in omega (arith, many, more, inside, behind, short))
-
-    none_there : (ns : List ℕ) (j : ℕ) → j < length ns → slice_get ns j ≡ None → ⊥
-    none_there [] j less e = omega (arith, less)
-    none_there (x ∷ ns) zero less e = cc e
-    none_there (x ∷ ns) (suc j) less e = none_there ns j (omega (arith, less)) e
-
-    of : (o : Option ℕ) → slice_get counts s ≡ o → (m : ℕ) × (slice_get (scope_of (along (lines_of line lim n ts) ++ grid_binders counts)) s ≡ Some (grid_symbol m))
-    of None e = absurd (none_there counts s inside e)
-    of (Some m) e =
-        let from_zero : 0 + s ≡ s = omega arith in (
-          m,
-          (at_place (binding_of plain) 0 (min (symbol_count plain) most_symbols) s within ∙ ap (λ (i : ℕ). Some (binding_of plain i)) from_zero
-              ∙ ap (λ (b : Binding). Some b) (skips line lim n ts (grid_binders counts) s (omega (arith, inside, behind)) ∙ (grid_tells counts few).tells s m e)),
-        )

@@ -28,9 +28,8 @@ use Rattle.meaning.specs.Names.{same_name}
 use Rattle.soundness.specs.Claims.{In}
 use Rattle.soundness.specs.Origins.{Outline}
 use Rattle.soundness.specs.Given.{outline_of}
-use Rattle.soundness.specs.Obligations.{Rules, exactly}
+use Rattle.soundness.specs.Obligations.{exactly}
 use Rattle.soundness.proofs.Refines.{name_true}
-use Rattle.rules.specs.Bounding.Rules.{rules_of}
 use Rattle.headline.proofs.Regions.{at_in}
 use Rattle.sched.specs.Schedule.{Schedule}
 use Rattle.sched.specs.Legal.{IsLegal}
@@ -141,9 +140,6 @@ module _ (a : Algorithm) (sch : Schedule) (l : Lowered) (well : IsAlgorithm a) (
 
     abbrev pub O : Outline
     O = outline_of plan cert n (group_of p)
-
-    abbrev pub R : Rules
-    R = rules_of a plan cert n
 
     abbrev pub places : List Places
     places = own_places (dimensions_of g h.extents k)

@@ -71,7 +71,6 @@ use Rattle.std.proofs.lemmas.Option.{slice_get_within}
 use Rattle.plan.specs.declared.stmt.Pick.TheVariants.{Min}
 use Rattle.sched.specs.declared.skeleton.Step.{Step}
 use Rattle.sched.specs.declared.skeleton.Step.TheVariants.{Named}
-use Rattle.completeness.proofs.Laid.{found}
 use Rattle.completeness.proofs.Standing.{Rises, names_own}
 use Rattle.completeness.proofs.PlainNests.{grid_place}
 use Rattle.completeness.proofs.StoreBounds.{steps_keep}

@@ -1,14 +1,12 @@
 -- What the claims of nests owe, of functions whose loops are split once, with any tail, in any order, is shown.
-use Rattle.std.proofs.Common.{◌≡◌, ℕ, suc, ◌+◌, ◌-◌, ◌<◌, ◌≤◌, ◌^◌, Bool, true, false, ◌&&◌, ◌||◌, List, [], ◌∷◌, ◌++◌, length, map, take, drop}
-use Rattle.std.proofs.Common.{Option, Some, None, refl, sym, ap, ◌∙◌, subst, inl, inr, ◌⊎◌, arith}
+use Rattle.std.proofs.Common.{◌≡◌, ℕ, suc, ◌+◌, ◌-◌, ◌<◌, ◌≤◌, Bool, true, false, ◌&&◌, ◌||◌, List, [], ◌∷◌, ◌++◌, length, map, take, drop}
+use Rattle.std.proofs.Common.{Option, Some, None, refl, sym, ap, ◌∙◌, subst, inl, inr, arith}
 use Rattle.std.specs.Prelude.{ℤ, ◌==◌, if◌then◌else◌, slice_get}
 use Rattle.std.specs.List.{AllByRecursion, list_any, list_all}
-use Rattle.std.specs.Int.RustNames.{unsigned_abs}
 use Rattle.tree.specs.Term.{Term}
 use Rattle.lin.specs.Forms.{Form}
 use Rattle.lin.specs.declared.span.Span1.{Span1}
 use Rattle.plan.specs.declared.plan.Group.{Group as CodeGroup}
-use Rattle.plan.specs.declared.stmt.Pick.{Pick}
 use Rattle.plan.specs.declared.stmt.Places.{Places}
 use Rattle.plan.specs.declared.certificate.cert.Claim.{Claim as CodeClaim}
 use Rattle.plan.specs.declared.certificate.cert.Need.{Need}
@@ -36,7 +34,7 @@ use Rattle.sched.specs.declared.numbers.Numbers.{Numbers}
 use Rattle.sched.specs.declared.skeleton.Known.{Known}
 use Rattle.sched.specs.declared.skeleton.Step.{Step}
 use Rattle.sched.specs.declared.nest.Turning.{Turning}
-use Rattle.sched.specs.Numbers.{numbers_named, last_number, loop_numbers, parallel_loops, piece_counts}
+use Rattle.sched.specs.Numbers.{loop_numbers, parallel_loops, piece_counts}
 use Rattle.sched.specs.Standing.{form_named}
 use Rattle.sched.specs.Skeleton.{BodyText, NestText, SkeletonText, is_missing, variables_at, ranges_at, grid_forms, kept_from}
 use Rattle.tails.specs.Steps.{spine_of}
@@ -55,16 +53,13 @@ use Rattle.lower.specs.Blocks.{dimensions_of, claimed_region, own_places}
 use Rattle.lower.specs.Bodies.{first_left, other_lefts, AreCoordinates, IsStore}
 use Rattle.lower.specs.Fetches.{Entry as Fetched, Claims}
 use Rattle.lower.specs.Groups.{HasBody, HasGroups}
-use Rattle.lower.proofs.Blocking.{IsSmall, CutFits}
 use Rattle.completeness.specs.Laws.{AreSplitOnce}
 use Rattle.completeness.specs.Parted.{KeepsInner}
 use Rattle.completeness.specs.Nested.{SayYes, TakeSplit}
 use Rattle.completeness.proofs.Halves.{AreOthers}
 use Rattle.completeness.proofs.Lanes.{AreOnce}
 use Rattle.completeness.proofs.Owned.{some_same}
-use Rattle.completeness.proofs.PlainTurns.{hits}
-use Rattle.completeness.proofs.PureNests.{loop_name, index_at}
-use Rattle.completeness.proofs.GridCounts.{IsShort}
+use Rattle.completeness.proofs.PureNests.{index_at}
 use Rattle.meaning.specs.Conditions.{AreDistinct}
 use Rattle.sched.specs.Skeleton.{range_turning}
 use Rattle.lower.specs.Around.{range_names}
@@ -159,15 +154,6 @@ module _ (a : Algorithm) (sch : Schedule) (l : Lowered) (well : IsAlgorithm a) (
     abbrev pub region : List Span1
     region = claimed_region (dimensions_of g h.extents k)
 
-    abbrev pub low : List ℕ → ℤ
-    low x = (numbers_named rs x).low
-
-    abbrev pub last : List ℕ → ℤ
-    last x = last_number (numbers_named rs x)
-
-    abbrev pub num : List ℕ → Numbers
-    num x = numbers_named rs x
-
     abbrev pub lay : LayText
     lay = lay_over g h.extents k
 
@@ -198,39 +184,8 @@ module _ (a : Algorithm) (sch : Schedule) (l : Lowered) (well : IsAlgorithm a) (
     abbrev pub wholes : (c : Split) → In c cuts → In c.whole xs
     wholes = shape_of.wholes a sch l well legal small kept all groups n first line g p claims needs at there h lined placed alone_here laid split_alone keeps long
 
-    abbrev pub fits : (c : Split) → In c cuts → CutFits rs c
-    fits = shape_of.fits a sch l well legal small kept all groups n first line g p claims needs at there h lined placed alone_here laid split_alone keeps long
-
-    abbrev pub single : (y : List ℕ) → hits loop_name y ls ≤ 1
-    single = shape_of.single a sch l well legal small kept all groups n first line g p claims needs at there h lined placed alone_here laid split_alone keeps long
-
-    abbrev pub inners : (c : Split) → In c cuts → form_named grid c.inner ≡ None
-    inners = shape_of.inners a sch l well legal small kept all groups n first line g p claims needs at there h lined placed alone_here laid split_alone keeps long
-
-    abbrev pub leaf_of : (o : NestLoop) → In o ls → LeafOf xs ls cuts rs others once halves outers gone o.name
-    leaf_of = shape_of.leaf_of a sch l well legal small kept all groups n first line g p claims needs at there h lined placed alone_here laid split_alone keeps long
-
     abbrev pub shape : AreTails xs bs g.placed others once rs k
     shape = shape_of.shape a sch l well legal small kept all groups n first line g p claims needs at there h lined placed alone_here laid split_alone keeps long
-
-    abbrev pub NumbersFit : List ℕ → Type 0
-    NumbersFit = shape_of.NumbersFit a sch l well legal small kept all groups n first line g p claims needs at there h lined placed alone_here laid split_alone keeps long
-
-    abbrev pub fit_of : (x : List ℕ) → In x xs → NumbersFit x
-    fit_of = shape_of.fit_of a sch l well legal small kept all groups n first line g p claims needs at there h lined placed alone_here laid split_alone keeps long
-
-    abbrev pub sized : (c : Split) → In c cuts → IsSmall (num c.whole) × (0 < (num c.whole).count)
-    sized = shape_of.sized a sch l well legal small kept all groups n first line g p claims needs at there h lined placed alone_here laid split_alone keeps long
-
-    abbrev pub shorts : AllByRecursion IsShort k.grid
-    shorts = shape_of.shorts a sch l well legal small kept all groups n first line g p claims needs at there h lined placed alone_here laid split_alone keeps long
-
-    abbrev pub near_named : (y : List ℕ) → LeafOf xs ls cuts rs others once halves outers gone y → (unsigned_abs (low y) ≤ 2 ^ 36) × (unsigned_abs (last y) ≤ 2 ^ 36)
-    near_named = shape_of.near_named a sch l well legal small kept all groups n first line g p claims needs at there h lined placed alone_here laid split_alone keeps long
-
-    abbrev pub loop_leaf : (o : NestLoop) → In o ls → (x : List ℕ) × (slice_get xs o.dimension ≡ Some x) × ((x ≡ o.name) ⊎ ((c : Split) × In c cuts × (c.whole ≡ x) × ((o.name ≡ c.outer) ⊎
-        (o.name ≡ c.inner))))
-    loop_leaf = shape_of.loop_leaf a sch l well legal small kept all groups n first line g p claims needs at there h lined placed alone_here laid split_alone keeps long
 
     -- what is bound around a nest
     abbrev around : List Binder
@@ -422,9 +377,6 @@ module _ (a : Algorithm) (sch : Schedule) (l : Lowered) (well : IsAlgorithm a) (
             ap (makes_split R around c (map place xs)) stored_so ∙ (λ j. has j && all_covered j)
 
     -- ---- the law
-
-    abbrev NoLet : ℕ → Pick → List Form → Type 0
-    NoLet i pick forms = ⊥
 
     abbrev OverGrids : List Binder → Type 0
     OverGrids bs = bs ≡ around

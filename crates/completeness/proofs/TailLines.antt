@@ -22,7 +22,7 @@ use Rattle.tails.specs.Steps.{Step, Turns, Named, Tested, Spine, beyond, past, s
 use Rattle.tails.specs.Moves.{is_outer}
 use Rattle.tails.specs.Maps.{is_scoped}
 use Rattle.completeness.proofs.Standing.{AreLets}
-use Rattle.completeness.proofs.NestWalk.{down, IsRest, LetsFirst}
+use Rattle.completeness.proofs.NestWalk.{down, IsRest}
 use Rattle.completeness.proofs.LoopMoves.{Item}
 use Rattle.completeness.proofs.SplitTests.{IsBelow, item_of}
 use Rattle.completeness.proofs.BlockKept.{kept_back, kept_all}
@@ -126,10 +126,6 @@ module _ (line : ℕ → Line) (lim : ℕ → List Form) (d : ℕ) (at : List Co
       of (nest.Turns i x kind ∷ ls) are p = absurd are
       of (nest.Named i pick fs ∷ ls) are p = absurd (none ts first i pick fs (ls ++ part) p)
       of (nest.Tested low high ∷ ls) are p = absurd are
-
-  pub no_lets : (L : ℕ → Pick → List Form → Type 0) (n : ℕ) (ts : List Turning) → LoopFirst n ts → LetsFirst L (steps_of line lim n ts)
-  no_lets L n [] first = tt
-  no_lets L n (t ∷ ts) first = subst (λ (l : Line). LetsFirst L (line_steps l n t (lim n) (steps_of line lim (n + 1) ts))) (sym first) tt
 
 -- ---- the binders, the innermost first
 

@@ -209,14 +209,6 @@ module _ (xs : List (List ℕ)) (ls : List NestLoop) (cuts : List Split) (rs : L
     pub owner_there : (j : ℕ) (t : Turning) → slice_get ts j ≡ Some t → owner j ≡ owner_named t.name
     owner_there j t at = ap (λ (o : Option Turning). elim o [ Some t ↦ owner_named t.name | None ↦ [] ]) at
 
-    -- each loop is in the coordinate of one variable
-    pub owner_among : ((c : Split) → In c cuts → In c.whole xs) → (j : ℕ) (t : Turning) → slice_get ts j ≡ Some t → LeafOf t.name → In (owner j) xs
-    owner_among wholes j t at leaf = of leaf
-      where
-        of : LeafOf t.name → In (owner j) xs
-        of (inl m) = subst (λ (y : List ℕ). In y xs) (sym (owner_there j t at ∙ owner_self t.name m)) m
-        of (inr (c, m, h)) = subst (λ (y : List ℕ). In y xs) (sym (owner_there j t at ∙ owner_half c m t.name h)) (wholes c m)
-
     other_owner : (x : List ℕ) (j : ℕ) (t : Turning) → slice_get ts j ≡ Some t → is_loop (line (n + j)) ≡ true → (t.name ≡ x → ⊥) →
         ((c : Split) → In c cuts → c.whole ≡ x → (t.name ≡ c.outer) ⊎ (t.name ≡ c.inner) → ⊥) → same_name x (owner j) ≡ false
     other_owner x j t at loop one two = elim (turns j t at loop) [

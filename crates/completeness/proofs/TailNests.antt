@@ -14,15 +14,13 @@ use Rattle.plan.specs.declared.stmt.Places.{Places}
 use Rattle.plan.specs.declared.certificate.cert.Claim.{Claim as CodeClaim}
 use Rattle.plan.specs.declared.certificate.cert.Need.{Need}
 use Rattle.plan.specs.Plan.{At, Coordinate, Plan}
-use Rattle.plan.specs.View.{group_of, plan_of, statement_of}
+use Rattle.plan.specs.View.{plan_of, statement_of}
 use Rattle.plan.specs.Lines.{lines, body_line}
 use Rattle.plan.specs.Certificate.Certificate.{Certificate, certificate_of}
 use Rattle.meaning.specs.Algorithm.{Algorithm}
 use Rattle.meaning.specs.Conditions.{IsAlgorithm}
 use Rattle.meaning.specs.Names.{same_name}
 use Rattle.soundness.specs.Claims.{In}
-use Rattle.soundness.specs.Origins.{Outline}
-use Rattle.soundness.specs.Given.{outline_of}
 use Rattle.soundness.specs.Obligations.{Rules, has_form, is_form}
 use Rattle.soundness.specs.Shown.{start}
 use Rattle.soundness.specs.Binders.View.{grid_binders}
@@ -52,7 +50,6 @@ use Rattle.lower.specs.Regions.{bodies_from}
 use Rattle.lower.specs.Owning.{IsLaidBy}
 use Rattle.lower.specs.Loading.{Loads}
 use Rattle.lower.specs.Blocks.{LayText, lay_over, dimension_of}
-use Rattle.lower.specs.Blocks.{dimensions_of, claimed_region, own_places}
 use Rattle.lower.specs.Bodies.{IsIndex, first_left, other_lefts, AreCoordinates}
 use Rattle.lower.specs.Fetches.{Entry as Fetched}
 use Rattle.lower.specs.Groups.{HasBody, HasGroups}
@@ -92,7 +89,7 @@ use Rattle.completeness.proofs.Searched.{one_of}
 use Rattle.completeness.proofs.GuardSums.{left_is}
 use Rattle.completeness.proofs.BlockSums.{multiple, pair, two_of, start_is}
 use Rattle.completeness.proofs.SplitTests.{grid_spelled}
-use Rattle.completeness.proofs.BlockNames.{LeafOf, IsTurnOf, IsForeign, IsNestTurn, turn_of, half_of}
+use Rattle.completeness.proofs.BlockNames.{LeafOf, IsTurnOf, IsNestTurn, turn_of}
 use Rattle.completeness.proofs.TailSteps.{Line, Loop, Block, Pair, is_loop, line_steps, steps_of}
 use Rattle.completeness.proofs.TailTurns.{keeps_rest, Entry, let_of, entry_steps, Leaf, IsBegun, IsLimited, Kept, Right, IsLet, IsEntry, IsLimit, IsPair, IsBlock}
 use Rattle.completeness.proofs.TailTurns.{not_shifted}
@@ -200,17 +197,8 @@ module _ (a : Algorithm) (sch : Schedule) (l : Lowered) (well : IsAlgorithm a) (
     abbrev pub bs : List BodyText
     bs = bodies_from g.changes 0 g.subject.reductions fs
 
-    abbrev pub O : Outline
-    O = outline_of plan cert n (group_of p)
-
     abbrev pub R : Rules
     R = rules_of a plan cert n
-
-    abbrev pub places : List Places
-    places = own_places (dimensions_of g h.extents k)
-
-    abbrev pub region : List Span1
-    region = claimed_region (dimensions_of g h.extents k)
 
     abbrev pub low : List ℕ → ℤ
     low x = (numbers_named rs x).low
@@ -259,9 +247,6 @@ module _ (a : Algorithm) (sch : Schedule) (l : Lowered) (well : IsAlgorithm a) (
 
     abbrev pub inners : (c : Split) → In c cuts → form_named grid c.inner ≡ None
     inners = shape_of.inners a sch l well legal small kept all groups n first line g p claims needs at there h lined placed alone_here laid split_alone keeps long
-
-    abbrev pub leaf_of : (o : NestLoop) → In o ls → LeafOf xs ls cuts rs others once halves outers gone o.name
-    leaf_of = shape_of.leaf_of a sch l well legal small kept all groups n first line g p claims needs at there h lined placed alone_here laid split_alone keeps long
 
     abbrev pub shape : AreTails xs bs g.placed others once rs k
     shape = shape_of.shape a sch l well legal small kept all groups n first line g p claims needs at there h lined placed alone_here laid split_alone keeps long

@@ -5,24 +5,18 @@ use Rattle.std.specs.Prelude.{ℤ, slice_get}
 use Rattle.std.specs.List.{AllByRecursion}
 use Rattle.std.specs.Int.RustNames.{unsigned_abs}
 use Rattle.std.proofs.lemmas.Int.{ints}
-use Rattle.lin.specs.declared.span.Span1.{Span1}
 use Rattle.plan.specs.declared.plan.Group.{Group as CodeGroup}
 use Rattle.plan.specs.declared.stmt.Places.{Places}
 use Rattle.plan.specs.declared.certificate.cert.Claim.{Claim as CodeClaim}
 use Rattle.plan.specs.declared.certificate.cert.Need.{Need}
 use Rattle.plan.specs.Plan.{Plan}
-use Rattle.plan.specs.View.{group_of, plan_of, statement_of}
+use Rattle.plan.specs.View.{plan_of, statement_of}
 use Rattle.plan.specs.Lines.{lines, body_line}
-use Rattle.plan.specs.Certificate.Certificate.{Certificate, certificate_of}
 use Rattle.meaning.specs.Algorithm.{Algorithm}
 use Rattle.meaning.specs.Conditions.{IsAlgorithm}
 use Rattle.meaning.specs.Names.{same_name}
 use Rattle.soundness.specs.Claims.{In}
-use Rattle.soundness.specs.Origins.{Outline}
-use Rattle.soundness.specs.Given.{outline_of}
-use Rattle.soundness.specs.Obligations.{Rules}
 use Rattle.soundness.proofs.Refines.{name_refl, name_true}
-use Rattle.rules.specs.Bounding.Rules.{rules_of}
 use Rattle.headline.proofs.Regions.{at_in}
 use Rattle.sched.specs.Schedule.{Schedule}
 use Rattle.sched.specs.Legal.{IsLegal}
@@ -42,7 +36,6 @@ use Rattle.lower.specs.Faults.{are_whole, region_fault}
 use Rattle.lower.specs.Regions.{bodies_from}
 use Rattle.lower.specs.Owning.{IsLaidBy}
 use Rattle.lower.specs.Blocks.{LayText, lay_over, dimension_of}
-use Rattle.lower.specs.Blocks.{dimensions_of, claimed_region, own_places}
 use Rattle.lower.specs.Fetches.{Entry as Fetched}
 use Rattle.lower.specs.Groups.{HasBody, HasGroups}
 use Rattle.lower.proofs.Blocking.{IsSmall, CutFits}
@@ -145,9 +138,6 @@ module _ (a : Algorithm) (sch : Schedule) (l : Lowered) (well : IsAlgorithm a) (
   abbrev pub plan : Plan
   plan = plan_of l.plan
 
-  abbrev pub cert : Certificate
-  cert = certificate_of l.certificate
-
   module _ (n first line : ℕ) (g : StoredText) (p : CodeGroup) (claims : List CodeClaim) (needs : List Need) (at : slice_get stored n ≡ Some g) (there : slice_get made_groups n ≡ Some p)
       (h : HasBody a entries n first line g p claims needs) (lined : body_line plan n ≡ line + 1)
       (placed : (j : ℕ) (v : CodeClaim) → slice_get claims j ≡ Some v → slice_get items (first + j) ≡ Some v)
@@ -175,18 +165,6 @@ module _ (a : Algorithm) (sch : Schedule) (l : Lowered) (well : IsAlgorithm a) (
     abbrev pub bs : List BodyText
     bs = bodies_from g.changes 0 g.subject.reductions fs
 
-    abbrev pub O : Outline
-    O = outline_of plan cert n (group_of p)
-
-    abbrev pub R : Rules
-    R = rules_of a plan cert n
-
-    abbrev pub places : List Places
-    places = own_places (dimensions_of g h.extents k)
-
-    abbrev pub region : List Span1
-    region = claimed_region (dimensions_of g h.extents k)
-
     abbrev pub low : List ℕ → ℤ
     low x = (numbers_named rs x).low
 
@@ -201,9 +179,6 @@ module _ (a : Algorithm) (sch : Schedule) (l : Lowered) (well : IsAlgorithm a) (
 
     abbrev pub grid : List Known
     grid = grid_forms rs 0 (parallel_loops ls)
-
-    abbrev pub claim : List ℕ → Span1
-    claim x = (dimension_of lay cuts x).claim
 
     abbrev pub place : List ℕ → Places
     place x = (dimension_of lay cuts x).places

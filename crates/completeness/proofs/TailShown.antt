@@ -1,9 +1,8 @@
 -- All that the claims of nests owe is shown, of functions whose loops are split once, with any tail, in any order.
-use Rattle.std.proofs.Common.{◌≡◌, ℕ, zero, suc, ◌+◌, ◌-◌, ◌<◌, ◌≤◌, ◌^◌, Bool, true, false, ◌&&◌, ◌||◌, List, [], ◌∷◌, length, map}
+use Rattle.std.proofs.Common.{◌≡◌, ℕ, zero, suc, ◌+◌, ◌-◌, ◌<◌, ◌≤◌, Bool, true, false, ◌&&◌, ◌||◌, List, [], ◌∷◌, length, map}
 use Rattle.std.proofs.Common.{Some, None, refl, sym, ap, ◌∙◌, subst, inl, inr, ◌⊎◌, arith}
 use Rattle.std.specs.Prelude.{ℤ, if◌then◌else◌, slice_get}
 use Rattle.std.specs.List.{AllByRecursion}
-use Rattle.std.specs.Int.RustNames.{unsigned_abs}
 use Rattle.tree.specs.Term.{Term}
 use Rattle.lin.specs.Forms.{Form}
 use Rattle.lin.specs.declared.span.Span1.{Span1}
@@ -42,7 +41,6 @@ use Rattle.sched.specs.declared.skeleton.Known.{Known}
 use Rattle.sched.specs.declared.skeleton.Step.{Step}
 use Rattle.sched.specs.declared.nest.Turning.{Turning}
 use Rattle.sched.specs.Numbers.{numbers_named, last_number, loop_numbers, parallel_loops, piece_counts}
-use Rattle.sched.specs.Standing.{form_named}
 use Rattle.sched.specs.Skeleton.{BodyText, NestText, SkeletonText, nest_turns, grid_forms}
 use Rattle.tails.specs.Steps.{spine_of}
 use Rattle.tails.specs.Nests.{makes_by}
@@ -57,7 +55,6 @@ use Rattle.lower.specs.Blocks.{dimensions_of, claimed_region, own_places}
 use Rattle.lower.specs.Bodies.{IsStore}
 use Rattle.lower.specs.Fetches.{Entry as Fetched, Claims}
 use Rattle.lower.specs.Groups.{HasBody, HasGroups}
-use Rattle.lower.proofs.Blocking.{IsSmall, CutFits}
 use Rattle.completeness.specs.Laws.{IsFetch, AreSplitOnce}
 use Rattle.completeness.specs.Parted.{KeepsInner}
 use Rattle.completeness.specs.Owed.{EachClaim, AreClaimsNear}
@@ -65,9 +62,6 @@ use Rattle.completeness.specs.Nested.{SayYes, TakeSplit}
 use Rattle.completeness.proofs.Halves.{AreOthers}
 use Rattle.completeness.proofs.Lanes.{AreOnce}
 use Rattle.completeness.proofs.Owned.{some_same, same_extents, same_skeleton}
-use Rattle.completeness.proofs.PlainTurns.{hits}
-use Rattle.completeness.proofs.PureNests.{loop_name}
-use Rattle.completeness.proofs.GridCounts.{IsShort}
 use Rattle.meaning.specs.Algorithm.{Range}
 use Rattle.soundness.specs.Obligations.{is_next}
 use Rattle.sched.specs.Skeleton.{range_turning}
@@ -84,7 +78,6 @@ use Rattle.completeness.proofs.Defined.{other_put}
 use Rattle.completeness.specs.Fitting.{IsSplitOnce}
 use Rattle.completeness.specs.Blocked.{BlockedClaimsOweShown}
 use Rattle.sched.specs.Numbers.{is_too_short}
-use Rattle.completeness.proofs.BlockNames.{LeafOf}
 use Rattle.completeness.proofs.TailSteps.{Line, Pair, line_steps, steps_of}
 use Rattle.completeness.proofs.TailTurns.{keeps_rest, Entry, entry_steps, IsEntry, IsPair, IsBlock}
 use Rattle.completeness.proofs.TailSkeletons.{AreTails}
@@ -183,17 +176,11 @@ module _ (a : Algorithm) (sch : Schedule) (l : Lowered) (well : IsAlgorithm a) (
     abbrev pub last : List ℕ → ℤ
     last x = last_number (numbers_named rs x)
 
-    abbrev pub num : List ℕ → Numbers
-    num x = numbers_named rs x
-
     abbrev pub lay : LayText
     lay = lay_over g h.extents k
 
     abbrev pub grid : List Known
     grid = grid_forms rs 0 (parallel_loops ls)
-
-    abbrev pub claim : List ℕ → Span1
-    claim x = (dimension_of lay cuts x).claim
 
     abbrev pub place : List ℕ → Places
     place x = (dimension_of lay cuts x).places
@@ -204,51 +191,8 @@ module _ (a : Algorithm) (sch : Schedule) (l : Lowered) (well : IsAlgorithm a) (
     abbrev pub once : AreOnce cuts
     once = shape_of.once a sch l well legal small kept all groups n first line g p claims needs at there h lined placed alone_here laid split_alone keeps long
 
-    abbrev pub halves : (c : Split) → In c cuts → (x : List ℕ) → In x xs → (x ≡ c.outer → ⊥) × (x ≡ c.inner → ⊥)
-    halves = shape_of.halves a sch l well legal small kept all groups n first line g p claims needs at there h lined placed alone_here laid split_alone keeps long
-
-    abbrev pub outers : (c d : Split) → In c cuts → In d cuts → c.outer ≡ d.outer → c ≡ d
-    outers = shape_of.outers a sch l well legal small kept all groups n first line g p claims needs at there h lined placed alone_here laid split_alone keeps long
-
-    abbrev pub gone : (c : Split) → In c cuts → (o : NestLoop) → In o ls → c.whole ≡ o.name → ⊥
-    gone = shape_of.gone a sch l well legal small kept all groups n first line g p claims needs at there h lined placed alone_here laid split_alone keeps long
-
-    abbrev pub wholes : (c : Split) → In c cuts → In c.whole xs
-    wholes = shape_of.wholes a sch l well legal small kept all groups n first line g p claims needs at there h lined placed alone_here laid split_alone keeps long
-
-    abbrev pub fits : (c : Split) → In c cuts → CutFits rs c
-    fits = shape_of.fits a sch l well legal small kept all groups n first line g p claims needs at there h lined placed alone_here laid split_alone keeps long
-
-    abbrev pub single : (y : List ℕ) → hits loop_name y ls ≤ 1
-    single = shape_of.single a sch l well legal small kept all groups n first line g p claims needs at there h lined placed alone_here laid split_alone keeps long
-
-    abbrev pub inners : (c : Split) → In c cuts → form_named grid c.inner ≡ None
-    inners = shape_of.inners a sch l well legal small kept all groups n first line g p claims needs at there h lined placed alone_here laid split_alone keeps long
-
-    abbrev pub leaf_of : (o : NestLoop) → In o ls → LeafOf xs ls cuts rs others once halves outers gone o.name
-    leaf_of = shape_of.leaf_of a sch l well legal small kept all groups n first line g p claims needs at there h lined placed alone_here laid split_alone keeps long
-
     abbrev pub shape : AreTails xs bs g.placed others once rs k
     shape = shape_of.shape a sch l well legal small kept all groups n first line g p claims needs at there h lined placed alone_here laid split_alone keeps long
-
-    abbrev pub NumbersFit : List ℕ → Type 0
-    NumbersFit = shape_of.NumbersFit a sch l well legal small kept all groups n first line g p claims needs at there h lined placed alone_here laid split_alone keeps long
-
-    abbrev pub fit_of : (x : List ℕ) → In x xs → NumbersFit x
-    fit_of = shape_of.fit_of a sch l well legal small kept all groups n first line g p claims needs at there h lined placed alone_here laid split_alone keeps long
-
-    abbrev pub sized : (c : Split) → In c cuts → IsSmall (num c.whole) × (0 < (num c.whole).count)
-    sized = shape_of.sized a sch l well legal small kept all groups n first line g p claims needs at there h lined placed alone_here laid split_alone keeps long
-
-    abbrev pub shorts : AllByRecursion IsShort k.grid
-    shorts = shape_of.shorts a sch l well legal small kept all groups n first line g p claims needs at there h lined placed alone_here laid split_alone keeps long
-
-    abbrev pub near_named : (y : List ℕ) → LeafOf xs ls cuts rs others once halves outers gone y → (unsigned_abs (low y) ≤ 2 ^ 36) × (unsigned_abs (last y) ≤ 2 ^ 36)
-    near_named = shape_of.near_named a sch l well legal small kept all groups n first line g p claims needs at there h lined placed alone_here laid split_alone keeps long
-
-    abbrev pub loop_leaf : (o : NestLoop) → In o ls → (x : List ℕ) × (slice_get xs o.dimension ≡ Some x) × ((x ≡ o.name) ⊎ ((c : Split) × In c cuts × (c.whole ≡ x) × ((o.name ≡ c.outer) ⊎
-        (o.name ≡ c.inner))))
-    loop_leaf = shape_of.loop_leaf a sch l well legal small kept all groups n first line g p claims needs at there h lined placed alone_here laid split_alone keeps long
 
     -- ---- the law
 

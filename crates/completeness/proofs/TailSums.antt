@@ -386,9 +386,6 @@ module _ (factor : ℕ → ℤ) (n : ℕ) (ts : List Turning) (owner : ℕ → L
     -- ---- of one let
 
     module _ (p : ℕ) (t : Turning) (at : slice_get ts p ≡ Some t) (not_loop : is_loop (line (n + p)) ≡ false) where
-      abbrev s : ℕ
-      s = n + p
-
       -- it is in the loops of no coordinate
       not_part : (x : List ℕ) (k : IsSum x) → is_left (n + p) k.parts ≡ false
       not_part x k = of (is_left (n + p) k.parts) refl

@@ -1,9 +1,8 @@
 -- The tests of an update's nest, with any tail, in any order: the loops of its reduction are left out, and the others are those of the variables that it keeps.
-use Rattle.std.proofs.Common.{◌≡◌, ℕ, zero, suc, ◌+◌, ◌-◌, ◌<◌, ◌≤◌, ◌^◌, Bool, true, false, ◌&&◌, List, [], ◌∷◌, ◌++◌, length, map, take, drop}
+use Rattle.std.proofs.Common.{◌≡◌, ℕ, zero, suc, ◌+◌, ◌-◌, ◌<◌, ◌≤◌, Bool, true, false, ◌&&◌, List, [], ◌∷◌, ◌++◌, length, map, take, drop}
 use Rattle.std.proofs.Common.{Option, Some, None, refl, sym, ap, ◌∙◌, subst, inl, inr, ◌⊎◌, arith}
 use Rattle.std.specs.Prelude.{ℤ, pos, ◌==◌, if◌then◌else◌, slice_get}
 use Rattle.std.specs.List.{AllByRecursion, list_any, list_all}
-use Rattle.std.specs.Int.RustNames.{unsigned_abs}
 use Rattle.std.proofs.lemmas.List.{length-map}
 use Rattle.tree.specs.Term.{Term}
 use Rattle.lin.specs.Forms.{Form}
@@ -35,7 +34,6 @@ use Rattle.sched.specs.declared.numbers.Numbers.{Numbers}
 use Rattle.sched.specs.declared.skeleton.Known.{Known}
 use Rattle.sched.specs.declared.nest.Turning.{Turning}
 use Rattle.sched.specs.Numbers.{numbers_named, last_number, loop_numbers, parallel_loops, piece_counts}
-use Rattle.sched.specs.Standing.{form_named}
 use Rattle.sched.specs.Skeleton.{BodyText, NestText, SkeletonText, nest_turns, variables_at, ranges_at, grid_forms, kept_from}
 use Rattle.tails.specs.Maps.{covers}
 use Rattle.lower.specs.declared.lowering.Lowered.{Lowered}
@@ -46,18 +44,16 @@ use Rattle.lower.specs.Around.{names_with}
 use Rattle.lower.specs.Owning.{IsLaidBy}
 use Rattle.lower.specs.Loading.{Loads}
 use Rattle.lower.specs.Blocks.{LayText, lay_over, dimension_of}
-use Rattle.lower.specs.Blocks.{dimensions_of, claimed_region, own_places}
+use Rattle.lower.specs.Blocks.{dimensions_of, claimed_region}
 use Rattle.lower.specs.Bodies.{AreCoordinates, IsStore}
 use Rattle.lower.specs.Fetches.{Entry as Fetched}
 use Rattle.lower.specs.Groups.{HasBody, HasGroups}
-use Rattle.lower.proofs.Blocking.{IsSmall, CutFits}
 use Rattle.completeness.specs.Laws.{AreSplitOnce}
 use Rattle.completeness.specs.Parted.{KeepsInner}
 use Rattle.completeness.proofs.Halves.{AreOthers}
 use Rattle.completeness.proofs.Lanes.{AreOnce}
 use Rattle.completeness.proofs.PlainTurns.{hits, itself, turn_name, one_if, hits_some}
 use Rattle.completeness.proofs.PureNests.{all_in, loop_name}
-use Rattle.completeness.proofs.GridCounts.{IsShort}
 use Rattle.completeness.proofs.GuardSums.{left_over}
 use Rattle.std.specs.Prelude.{not}
 use Rattle.meaning.specs.Algorithm.{Range}
@@ -84,7 +80,6 @@ use Rattle.headline.proofs.Lists.{at_map}
 use Rattle.sched.specs.Placing.{is_shifted}
 use Rattle.sched.specs.Numbers.{is_too_short}
 use Rattle.completeness.proofs.BlockSums.{multiple, pair}
-use Rattle.completeness.proofs.BlockNames.{LeafOf, IsTurnOf, IsForeign, IsNestTurn, turn_of, half_of}
 use Rattle.completeness.proofs.TailSteps.{Line, Loop, Block, Pair, is_loop}
 use Rattle.completeness.proofs.TailTurns.{keeps_rest, Entry}
 use Rattle.completeness.proofs.TailSkeletons.{IsTailNest, AreTails}
@@ -169,9 +164,6 @@ module _ (a : Algorithm) (sch : Schedule) (l : Lowered) (well : IsAlgorithm a) (
     abbrev pub R : Rules
     R = rules_of a plan cert n
 
-    abbrev pub places : List Places
-    places = own_places (dimensions_of g h.extents k)
-
     abbrev pub region : List Span1
     region = claimed_region (dimensions_of g h.extents k)
 
@@ -180,9 +172,6 @@ module _ (a : Algorithm) (sch : Schedule) (l : Lowered) (well : IsAlgorithm a) (
 
     abbrev pub last : List ℕ → ℤ
     last x = last_number (numbers_named rs x)
-
-    abbrev pub num : List ℕ → Numbers
-    num x = numbers_named rs x
 
     abbrev pub lay : LayText
     lay = lay_over g h.extents k
@@ -214,39 +203,8 @@ module _ (a : Algorithm) (sch : Schedule) (l : Lowered) (well : IsAlgorithm a) (
     abbrev pub wholes : (c : Split) → In c cuts → In c.whole xs
     wholes = shape_of.wholes a sch l well legal small kept all groups n first line g p claims needs at there h lined placed alone_here laid split_alone keeps long
 
-    abbrev pub fits : (c : Split) → In c cuts → CutFits rs c
-    fits = shape_of.fits a sch l well legal small kept all groups n first line g p claims needs at there h lined placed alone_here laid split_alone keeps long
-
-    abbrev pub single : (y : List ℕ) → hits loop_name y ls ≤ 1
-    single = shape_of.single a sch l well legal small kept all groups n first line g p claims needs at there h lined placed alone_here laid split_alone keeps long
-
-    abbrev pub inners : (c : Split) → In c cuts → form_named grid c.inner ≡ None
-    inners = shape_of.inners a sch l well legal small kept all groups n first line g p claims needs at there h lined placed alone_here laid split_alone keeps long
-
-    abbrev pub leaf_of : (o : NestLoop) → In o ls → LeafOf xs ls cuts rs others once halves outers gone o.name
-    leaf_of = shape_of.leaf_of a sch l well legal small kept all groups n first line g p claims needs at there h lined placed alone_here laid split_alone keeps long
-
     abbrev pub shape : AreTails xs bs g.placed others once rs k
     shape = shape_of.shape a sch l well legal small kept all groups n first line g p claims needs at there h lined placed alone_here laid split_alone keeps long
-
-    abbrev pub NumbersFit : List ℕ → Type 0
-    NumbersFit = shape_of.NumbersFit a sch l well legal small kept all groups n first line g p claims needs at there h lined placed alone_here laid split_alone keeps long
-
-    abbrev pub fit_of : (x : List ℕ) → In x xs → NumbersFit x
-    fit_of = shape_of.fit_of a sch l well legal small kept all groups n first line g p claims needs at there h lined placed alone_here laid split_alone keeps long
-
-    abbrev pub sized : (c : Split) → In c cuts → IsSmall (num c.whole) × (0 < (num c.whole).count)
-    sized = shape_of.sized a sch l well legal small kept all groups n first line g p claims needs at there h lined placed alone_here laid split_alone keeps long
-
-    abbrev pub shorts : AllByRecursion IsShort k.grid
-    shorts = shape_of.shorts a sch l well legal small kept all groups n first line g p claims needs at there h lined placed alone_here laid split_alone keeps long
-
-    abbrev pub near_named : (y : List ℕ) → LeafOf xs ls cuts rs others once halves outers gone y → (unsigned_abs (low y) ≤ 2 ^ 36) × (unsigned_abs (last y) ≤ 2 ^ 36)
-    near_named = shape_of.near_named a sch l well legal small kept all groups n first line g p claims needs at there h lined placed alone_here laid split_alone keeps long
-
-    abbrev pub loop_leaf : (o : NestLoop) → In o ls → (x : List ℕ) × (slice_get xs o.dimension ≡ Some x) × ((x ≡ o.name) ⊎ ((c : Split) × In c cuts × (c.whole ≡ x) × ((o.name ≡ c.outer) ⊎
-        (o.name ≡ c.inner))))
-    loop_leaf = shape_of.loop_leaf a sch l well legal small kept all groups n first line g p claims needs at there h lined placed alone_here laid split_alone keeps long
 
     -- what is bound around a nest
     abbrev around : List Binder
@@ -548,9 +506,9 @@ module _ (a : Algorithm) (sch : Schedule) (l : Lowered) (well : IsAlgorithm a) (
         three : us ≡ firsts ++ (middle ++ lasts)
         three = turned b rs ls ds ranged ∙ joined_twice firsts middle lasts
           where
-            joined_twice : (us fs ws : List Turning) → (us ++ fs) ++ ws ≡ us ++ (fs ++ ws)
-            joined_twice [] fs ws = refl
-            joined_twice (u ∷ us) fs ws = (let rest = joined_twice us fs ws in ap (λ (r : List Turning). u ∷ r) rest)
+            joined_twice : (us qs ws : List Turning) → (us ++ qs) ++ ws ≡ us ++ (qs ++ ws)
+            joined_twice [] qs ws = refl
+            joined_twice (u ∷ us) qs ws = (let rest = joined_twice us qs ws in ap (λ (r : List Turning). u ∷ r) rest)
 
         middle_range : (j : ℕ) (t : Turning) → slice_get middle j ≡ Some t → IsRangeTurn b rs ls ds ranged t
         middle_range j t at_j = all_get (IsRangeTurn b rs ls ds ranged) middle j t (range_parts b rs ls ds ranged) at_j
