@@ -1,20 +1,14 @@
 -- The schedule that is written out splits loops plainly, by computation.
-use Rattle.std.proofs.Common.{◌≡◌, ℕ, zero, suc, false, List, [], ◌∷◌, Option, Some, None, map, refl, sym, ap, ◌∙◌, subst, inl, inr, arith}
+use Rattle.std.proofs.Common.{◌≡◌, ℕ, zero, suc, List, [], ◌∷◌, Option, Some, None, map, refl, sym, ap, ◌∙◌, subst, inr}
 use Rattle.std.specs.Prelude.{pos, slice_get}
-use Rattle.std.specs.List.{AllByRecursion}
-use Rattle.std.proofs.lemmas.Int.{ints}
 use Rattle.tree.specs.Term.{Term}
-use Rattle.sched.specs.declared.numbers.Extent.{Extent}
 use Rattle.meaning.specs.Algorithm.{Function}
-use Rattle.sched.specs.Numbers.{loop_numbers}
 use Rattle.sched.specs.Subjects.{subject_said}
 use Rattle.sched.specs.Legal.{said, loops_after}
 use Rattle.lower.specs.Stored.{FormulaText, StoredText, stored_by, flags, stored_functions}
 use Rattle.lower.specs.Regions.{LaidText, laid_functions}
 use Rattle.lower.specs.Bodies.{step_lines}
-use Rattle.completeness.specs.Blocked.{makes_line, IsKept}
 use Rattle.completeness.specs.Fitting.{IsSplitOnce}
-use Rattle.completeness.specs.Stores.{IsNearRegion}
 use Rattle.completeness.specs.Simple.{SimpleIndices}
 use Rattle.completeness.specs.Filled.{IsNearOrSimple}
 use Rattle.completeness.specs.Placed.{IsSettled, ArePlaced}
@@ -23,26 +17,6 @@ use Rattle.completeness.proofs.Owned.{some_same}
 
 abbrev gs : List StoredText
 gs = stored_functions two_functions both_split
-
--- so many numbers from 0 on
-abbrev from_zero : ℕ → Extent
-from_zero n = record { low = pos 0; count = n }
-
-abbrev points : List Extent
-points = from_zero 8 ∷ from_zero 5 ∷ []
-
-abbrev region_in : Option (Option LaidText) → List Extent
-region_in (Some (Some l)) = l.region
-region_in _ = []
-
-region_first : region_in (slice_get (laid_functions two_functions gs) 0) ≡ points
-region_first = refl
-
-region_second : region_in (slice_get (laid_functions two_functions gs) 1) ≡ points
-region_second = refl
-
-near_points : IsNearRegion points
-near_points = (omega (arith, ints), (omega (arith, ints), tt))
 
 -- ---- what is stored
 
@@ -62,20 +36,6 @@ first_is u at = some_same first u at
 
 second_is : (u : StoredText) → slice_get gs 1 ≡ Some u → second ≡ u
 second_is u at = some_same second u at
-
--- over its region no split of the first one makes a line of its own
-abbrev IsFilled : StoredText → List Extent → Type 0
-IsFilled g es = AllByRecursion (λ c. makes_line g.placed.loops (loop_numbers g.subject.variables g.placed.cuts es) c ≡ false) g.placed.cuts
-
-first_filled : IsFilled first points
-first_filled = (refl, (refl, tt))
-
-first_blocked : IsKept two_functions both_split 0 first
-first_blocked = record {
-  once = (refl, (refl, tt));
-  inners = (refl, refl, (refl, refl, tt));
-  filled = λ l e. subst (IsFilled first) (sym region_first ∙ ap region_in e) first_filled;
-}
 
 first_once : IsSplitOnce first
 first_once = record { once = (refl, (refl, tt)); inners = (refl, refl, (refl, refl, tt)) }
@@ -163,19 +123,19 @@ placed (suc (suc n)) u at fs e r there = absurd (no_more u at)
     no_more : (u : StoredText) → None ≡ Some u → ⊥
     no_more u q = cc q
 
--- the first one's region begins near 0
-first_near : (u : StoredText) (fs : List FormulaText) (r : LaidText) → slice_get gs 0 ≡ Some u → slice_get (laid_functions two_functions gs) 0 ≡ Some (Some r) →
-    IsNearOrSimple two_functions both_split 0 u fs r.region
-first_near u fs r at laid = inl (inr (subst (IsKept two_functions both_split 0) (first_is u at) first_blocked, subst IsNearRegion (sym region_first ∙ ap region_in laid) near_points))
+-- the indices of both are simple
+first_simple : SimpleIndices (formulas_in first.formulas)
+unfolding formulas_in
+first_simple = (refl, (refl, tt))
 
--- and the second one's indices are simple, and its blocks are kept within the picture
 second_simple : SimpleIndices (formulas_in second.formulas)
 unfolding formulas_in
 second_simple = (refl, tt)
 
 near : (n : ℕ) (u : StoredText) → slice_get gs n ≡ Some u → (fs : List FormulaText) → u.formulas ≡ Some fs → (r : LaidText) →
     slice_get (laid_functions two_functions gs) n ≡ Some (Some r) → IsNearOrSimple two_functions both_split n u fs r.region
-near zero u at fs e r laid = first_near u fs r at laid
+near zero u at fs e r laid =
+    inr (subst SimpleIndices (as_found first u fs (first_is u at) e) first_simple)
 near (suc zero) u at fs e r laid =
     inr (subst SimpleIndices (as_found second u fs (second_is u at) e) second_simple)
 near (suc (suc n)) u at fs e r laid = absurd (no_more u at)
@@ -183,15 +143,26 @@ near (suc (suc n)) u at fs e r laid = absurd (no_more u at)
     no_more : (u : StoredText) → None ≡ Some u → ⊥
     no_more u q = cc q
 
-abbrev HasTwelve : LaidText → Type 0
-HasTwelve r = AllByRecursion (λ w. step_lines w.steps ≡ 12) r.skeleton.nests
-
-second_twelve : HasTwelve laid_second
+-- how many lines there are over the grid, and in each nest before its store
+head_lines : step_lines laid_second.skeleton.head ≡ 1
 unfolding laid_in
-second_twelve = (refl, tt)
+head_lines = refl
+
+abbrev nest_lines : LaidText → List ℕ
+nest_lines r = map (λ w. step_lines w.steps) r.skeleton.nests
+
+first_lines : nest_lines laid_first ≡ 11 ∷ 9 ∷ []
+unfolding laid_in
+first_lines = refl
+
+second_lines : nest_lines laid_second ≡ 7 ∷ []
+unfolding laid_in
+second_lines = refl
 
 pub splits_are_plain : SplitsFill
 splits_are_plain = record {
   plain = record { whole = refl; once = once; placed = placed; near = near };
-  nest = λ r e. subst HasTwelve (as_laid 1 r e) second_twelve;
+  head = λ r e. ap (λ (y : LaidText). step_lines y.skeleton.head) (sym (as_laid 1 r e)) ∙ head_lines;
+  first = λ r e. ap nest_lines (sym (as_laid 0 r e)) ∙ first_lines;
+  second = λ r e. ap nest_lines (sym (as_laid 1 r e)) ∙ second_lines;
 }

@@ -1,5 +1,5 @@
 -- An algorithm and a schedule written out, of which the law of all that the checker tells speaks.
-use Rattle.std.specs.Prelude.{◌≡◌, ℕ, List, [], ◌∷◌, Some, codes, pos, slice_get}
+use Rattle.std.specs.Prelude.{◌≡◌, ℕ, List, [], ◌∷◌, map, Some, codes, pos, slice_get}
 use Rattle.std.specs.List.{AllByRecursion}
 use Rattle.numeric.specs.declared.ty.Ty.TheVariants.{U8, I32}
 use Rattle.numeric.specs.declared.op.Op.TheVariants.{Add}
@@ -62,26 +62,29 @@ two_functions = record {
 abbrev halved : List ℕ → List ℕ → List ℕ → ℕ → Tail → DirectiveText
 halved v outer inner n t = split (record { whole = v; outer = outer; inner = inner; factor = n; tail = t })
 
--- a piece for each two rows, which run past the end, by four numbers, whose loop is vectorised; and shifted blocks of two rows, and blocks of three numbers, whose
--- loop stands outside of that over the blocks: a guard keeps them within the row
+-- blocks of two rows whose loop stands outside of that over the blocks, which a guard keeps within the picture, by four numbers, whose loop is vectorised; and a
+-- piece for each shifted block of two rows, in shifted blocks of three numbers
 abbrev pub both_split : Schedule
 both_split =
     record {
       function = codes "f";
       directives =
-          compute_root ∷ halved y (codes "yo") (codes "yi") 2 Roundup ∷ parallel (codes "yo") ∷ halved x (codes "xo") (codes "xi") 4 Guard ∷ vectorize (codes "xi") ∷ [];
+          compute_root ∷ halved y (codes "yo") (codes "yi") 2 Guard ∷ reorder (codes "yo" ∷ codes "yi" ∷ []) ∷ halved x (codes "xo") (codes "xi") 4 Roundup ∷ vectorize (codes "xi") ∷ [];
     }
     ∷ record {
       function = codes "out";
-      directives = halved y (codes "yo") (codes "yi") 2 Shift ∷ halved x (codes "xo") (codes "xi") 3 Guard ∷ reorder (codes "xo" ∷ codes "xi" ∷ []) ∷ [];
+      directives = halved y (codes "yo") (codes "yi") 2 Shift ∷ parallel (codes "yo") ∷ halved x (codes "xo") (codes "xi") 3 Shift ∷ [];
     } ∷ []
 
--- they are such as the law asks; and the nest of the second has twelve lines before its store: four loops with their ends, the let of the shifted block, a guard
--- with its end, and a let behind that
+-- they are such as the law asks: with a let over the grid, and before its store the nest of the second has seven lines: three loops with their ends, and the let of
+-- a shifted block; those of the first have a guard with its end, and a let behind that, besides four loops, and three in its update
 pub record SplitsFill : Type 0 where
   pub plain : SplitsPlainly two_functions both_split
-  pub nest : (r : LaidText) → slice_get (laid_functions two_functions (stored_functions two_functions both_split)) 1 ≡ Some (Some r) →
-      AllByRecursion (λ w. step_lines w.steps ≡ 12) r.skeleton.nests
+  pub head : (r : LaidText) → slice_get (laid_functions two_functions (stored_functions two_functions both_split)) 1 ≡ Some (Some r) → step_lines r.skeleton.head ≡ 1
+  pub first : (r : LaidText) → slice_get (laid_functions two_functions (stored_functions two_functions both_split)) 0 ≡ Some (Some r) →
+      map (λ w. step_lines w.steps) r.skeleton.nests ≡ 11 ∷ 9 ∷ []
+  pub second : (r : LaidText) → slice_get (laid_functions two_functions (stored_functions two_functions both_split)) 1 ≡ Some (Some r) →
+      map (λ w. step_lines w.steps) r.skeleton.nests ≡ 7 ∷ []
 
 -- shifted blocks of two rows, one to a piece, and blocks of three numbers, whose loop stands outside of that over the blocks: a guard keeps them within the row
 abbrev pub shifted_split : Schedule

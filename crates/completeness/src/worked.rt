@@ -2,10 +2,10 @@
 
 ghost use Rattle.completeness.specs.Worked.{SplitsFill, SplitsOnceFill};
 
-/// A function over 8 by 5 points that reads the input and is updated at a left index that is no variable, computed in a piece for each two rows, which run past
-/// the end, by four numbers, whose loop is vectorised; and an output that calls it, in shifted blocks of two rows, and in blocks of three numbers, whose loop
-/// stands outside of that over the blocks, so that a guard keeps them within the picture: the law of all that the checker tells speaks of such a schedule. Its
-/// nest has the let of the shifted block, the guard, and a let behind that. By computation.
+/// A function over 8 by 5 points that reads the input and is updated at a left index that is no variable, in blocks of two rows, whose loop stands outside of that
+/// over the blocks, so that a guard keeps them within the picture, and by four numbers, whose loop is vectorised; and an output that calls it, a piece for each
+/// shifted block of two rows, in shifted blocks of three numbers: the law of all that the checker tells speaks of such a schedule. It makes a let over the grid;
+/// each nest of the one has a guard and a let behind it, that of the other the let of a shifted block. By computation.
 pub fn splits_are_plain()
     ensures { SplitsFill }
 {}
