@@ -92,12 +92,7 @@ fn lengthen(runs: &mut [CellRun], first: u32, more: u32)
 }
 
 /// One run more.
-fn push_run(
-    runs: &mut Vec<CellRun>,
-    before: u32,
-    first: u32,
-    count: u32,
-) -> Result<(), AllocError>
+fn push_run(runs: &mut Vec<CellRun>, before: u32, first: u32, count: u32) -> Result<(), AllocError>
     requires counted { AreCounted 0 runs.old.items }
     requires runs { All IsRun runs.old.items }
     requires before { before ≡ length (cells_of runs.old.items) }
@@ -116,12 +111,7 @@ fn push_run(
 }
 
 /// So many more cells, from one on, by the last run where they follow it.
-fn add_cells(
-    runs: &mut Vec<CellRun>,
-    before: u32,
-    first: u32,
-    count: u32,
-) -> Result<(), AllocError>
+fn add_cells(runs: &mut Vec<CellRun>, before: u32, first: u32, count: u32) -> Result<(), AllocError>
     requires counted { AreCounted 0 runs.old.items }
     requires runs { All IsRun runs.old.items }
     requires before { before ≡ length (cells_of runs.old.items) }
