@@ -11,7 +11,7 @@ use Rattle.std.proofs.lemmas.List.{length-map}
 use Rattle.numeric.specs.declared.ty.Ty.TheVariants.{I32}
 use Rattle.tree.specs.Term.{Term, Terms, End, More}
 use Rattle.tree.specs.Names.{IsIndex}
-use Rattle.lin.specs.Forms.{Form, number, combined, value_of as form_value}
+use Rattle.lin.specs.Forms.{Form, number, combined, value_of as form_value, is_within_limits}
 use Rattle.lin.specs.declared.form.Multiple.{Multiple}
 use Rattle.lin.specs.declared.scope.Binding.{Binding}
 use Rattle.lin.specs.declared.scope.Binding.TheVariants.{Loop as LoopBinding}
@@ -64,7 +64,8 @@ use Rattle.completeness.specs.Stores.{AreHeld, IsNearRegion}
 use Rattle.completeness.specs.Simple.{is_simple, are_simple, is_simple_left, has_simple_indices}
 use Rattle.completeness.specs.Placed.{IsOverRanges, IsSettled, ArePlaced, AreLeftsHeld, AreOwnHeld}
 use Rattle.completeness.proofs.RangeLoops.{AreNewNames}
-use Rattle.completeness.proofs.LeftHeld.{lefts_held, owns_held}
+use Rattle.completeness.proofs.MoreNumbers.{IsFewSpan}
+use Rattle.completeness.proofs.LeftHeld.{lefts_held, owns_held, AreCallsFew}
 use Rattle.completeness.specs.Blocked.{makes_line, IsKept}
 use Rattle.completeness.proofs.Owned.{some_same, same_extents, same_skeleton}
 use Rattle.completeness.proofs.Served.{roots, made_at}
@@ -73,7 +74,7 @@ use Rattle.completeness.proofs.Halves.{AreOthers, inner_outer}
 use Rattle.completeness.proofs.Lanes.{AreOnce}
 use Rattle.completeness.proofs.PureNests.{all_in, all_from, all_get}
 use Rattle.completeness.proofs.UpdateTurns.{all_mapped, all_filtered}
-use Rattle.completeness.proofs.Boxes.{IsCapped, IsBox, AreBoxes, IsPlain, ArePlain, weight_of, weight_at, weight, IsLight, IsLightSpan, span_light}
+use Rattle.completeness.proofs.Boxes.{IsCapped, IsBox, AreBoxes, IsPlain, ArePlain, weight_of, weight_at, weight, IsLight, IsLightSpan, span_light, span_few}
 use Rattle.completeness.proofs.FirstNumbers.{first_of, firsts, number_at, index_near}
 use Rattle.completeness.proofs.RangedLefts.{left_got}
 use Rattle.completeness.proofs.NearBoxes.{IsFew, IsBoxTurn, IsTurn, box_turn, plain_box, plain_weight, turn_there, all_bound, steps_boxes, steps_weights, regions_few}
@@ -206,15 +207,27 @@ module _ (a : Algorithm) (u : StoredText) (outer : List Binding) (w : NestText) 
       let index = simple_at f.at j e (left_got f j e at_j) (and_parts (list_all (λ (y : Written). are_simple y.at) (calls_in f)) (list_all is_simple_left f.at) simple).1 in
       simple_kept (λ ts. IsLightList scope ts) (no_weight scope) scope (called a) plain_left.variables plain_left.coordinates (spans_light scope w.at light) e index x found
 
-  pub simple_light : (r : AroundText) → around a u outer w f d ≡ Some r → AreCallsLight a r (calls_in f)
-  simple_light r stands i c at e m x found =
+  -- what an index stays within
+  index_kept : (r : AroundText) → around a u outer w f d ≡ Some r → (i : ℕ) (c : Written) → slice_get (calls_in f) i ≡ Some c → (e : Term) → HasIndex e c.at → (x : Span1) →
+      interval_in a r e ≡ Some x → AreLight r.scope x
+  index_kept r stands i c at e m x found =
       let z = bound (coordinates_behind a plain_left f [] 0 w.at) (λ cs. Some (record plain_left { coordinates = cs })) r stands in
       let is : record plain_left { coordinates = z.value } ≡ r = same (record plain_left { coordinates = z.value }) r z.comes in
       let coordinates = coordinates_light scope a plain_left f lefts_light [] 0 w.at z.value tt light z.is in
       let index : is_simple e ≡ true = index_of e c.at m (call_at (calls_in f) i c at (and_parts (list_all (λ (y : Written). are_simple y.at) (calls_in f)) (list_all is_simple_left f.at) simple).0) in
       let here : interval_in a (record plain_left { coordinates = z.value }) e ≡ Some x = ap (λ (t : AroundText). interval_in a t e) is ∙ found in
       let kept_here = simple_kept (λ ts. IsLightList scope ts) (no_weight scope) scope (called a) plain_left.variables z.value coordinates e index x here in
-      subst (λ (t : AroundText). IsLightSpan t.scope x) is (kept_light scope x kept_here)
+      subst (λ (t : AroundText). AreLight t.scope x) is kept_here
+
+  pub simple_light : (r : AroundText) → around a u outer w f d ≡ Some r → AreCallsLight a r (calls_in f)
+  simple_light r stands i c at e m x found = kept_light r.scope x (index_kept r stands i c at e m x found)
+
+  pub simple_few : (r : AroundText) → around a u outer w f d ≡ Some r → AreCallsFew a r (calls_in f)
+  simple_few r stands i c at e m x found =
+      let h = index_kept r stands i c at e m x found in (
+        all_weaker (λ (g : Form). IsLightList r.scope g.terms) (λ (g : Form). is_within_limits g ≡ true → weight r.scope g.terms ≤ 2 ^ 38 + 2 ^ 37 + 2 ^ 36) (λ g k limited. k) x.lower h.0,
+        all_weaker (λ (g : Form). IsLightList r.scope g.terms) (λ (g : Form). is_within_limits g ≡ true → weight r.scope g.terms ≤ 2 ^ 38 + 2 ^ 37 + 2 ^ 36) (λ g k limited. k) x.upper h.1,
+      )
 
 -- where no symbol goes far each index is light
 pub few_calls_light : (a : Algorithm) (u : StoredText) (outer : List Binding) (w : NestText) (f : FormulaText) (d : ℕ) → ((n : ℕ) → weight_at (bind_steps outer w.steps) n ≤ 73728) →
@@ -225,6 +238,14 @@ few_calls_light a u outer w f d few plain r stands i c at e m x found =
     let z = bound (coordinates_behind a left f [] 0 w.at) (λ cs. Some (record left { coordinates = cs })) r stands in
     let is : record left { coordinates = z.value } ≡ r = same (record left { coordinates = z.value }) r z.comes in
     subst (λ (t : AroundText). IsLightSpan t.scope x) is (span_light (bind_steps outer w.steps) few plain x)
+
+pub few_calls_few : (a : Algorithm) (u : StoredText) (outer : List Binding) (w : NestText) (f : FormulaText) (d : ℕ) → ((n : ℕ) → weight_at (bind_steps outer w.steps) n ≤ 73728) →
+    ((n : ℕ) → weight_at (bind_steps outer w.steps) n ≤ 49152) → (r : AroundText) → around a u outer w f d ≡ Some r → AreCallsFew a r (calls_in f)
+few_calls_few a u outer w f d few fewer r stands i c at e m x found =
+    let left : AroundText = left_around u outer w d in
+    let z = bound (coordinates_behind a left f [] 0 w.at) (λ cs. Some (record left { coordinates = cs })) r stands in
+    let is : record left { coordinates = z.value } ≡ r = same (record left { coordinates = z.value }) r z.comes in
+    subst (λ (t : AroundText). IsFewSpan t.scope x) is (span_few (bind_steps outer w.steps) few (inr fewer) fewer x)
 
 -- ---- groups
 

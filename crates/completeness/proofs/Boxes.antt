@@ -184,7 +184,7 @@ module _ (scope : List Binding) where
   weight (t ∷ ts) = weight_at t.symbol * unsigned_abs t.factor + weight ts
 
   -- the factor of a symbol, and what is left without it
-  weight_without : (ts : List Multiple) (n : ℕ) → weight_at n * unsigned_abs (factor_of ts n) + weight (filter (λ t. not (t.symbol == n)) ts) ≤ weight ts
+  pub weight_without : (ts : List Multiple) (n : ℕ) → weight_at n * unsigned_abs (factor_of ts n) + weight (filter (λ t. not (t.symbol == n)) ts) ≤ weight ts
   weight_without [] n = (let none = nothing (weight_at n) in omega (arith, none))
     where
       nothing : (w : ℕ) → w * 0 ≡ 0
@@ -236,7 +236,7 @@ module _ (scope : List Binding) where
           omega (arith, front, more, here)
       of false false e rest = (let front = weight_front t (x ∷ xs) in omega (arith, front))
 
-  weight_terms : (ts : List Multiple) (k : ℤ) (us : List Multiple) → weight (plus_terms ts k us) ≤ weight ts + unsigned_abs k * weight us
+  pub weight_terms : (ts : List Multiple) (k : ℤ) (us : List Multiple) → weight (plus_terms ts k us) ≤ weight ts + unsigned_abs k * weight us
   weight_terms ts k [] = omega arith
   weight_terms ts k (u ∷ us) =
       let v : Multiple = record { symbol = u.symbol; factor = k *ℤ u.factor } in
@@ -282,7 +282,7 @@ ArePlain scope = (n : ℕ) (b : Binding) → slice_get scope n ≡ Some b → Is
 
 module _ (scope : List Binding) where
   -- a form that may stand in a symbol's place goes no farther than the symbol
-  candidates_light : (b : Binding) → IsBox scope b → (c : ℤ) → AllByRecursion (λ f. unsigned_abs f.constant + weight scope f.terms ≤ weight_of (Some b)) (candidates b c)
+  pub candidates_light : (b : Binding) → IsBox scope b → (c : ℤ) → AllByRecursion (λ f. unsigned_abs f.constant + weight scope f.terms ≤ weight_of (Some b)) (candidates b c)
   candidates_light (Loop x) (inl is) (pos n) =
       subst (λ (y : Span1). AllByRecursion (λ f. unsigned_abs f.constant + weight scope f.terms ≤ weight_of (Some (Loop y))) y.upper) (sym is) tt
   candidates_light (Loop x) (inl is) (negsuc n) =
@@ -364,6 +364,19 @@ module _ (scope : List Binding) (few : (n : ℕ) → weight_at scope n ≤ 73728
           let sized = weight_fewer fewer f.terms (within_limits-terms f limited) in
           let count = within_limits-few f limited in
           inl (omega (arith, sized, count))
+
+  -- their multiples go no farther than this together, where no symbol's numbers go farther than 49,152
+  pub span_few : ((n : ℕ) → weight_at scope n ≤ 49152) → (s : Span1) → AllByRecursion (λ f. is_within_limits f ≡ true → weight scope f.terms ≤ 2 ^ 38 + 2 ^ 37 + 2 ^ 36) s.lower
+      × AllByRecursion (λ f. is_within_limits f ≡ true → weight scope f.terms ≤ 2 ^ 38 + 2 ^ 37 + 2 ^ 36) s.upper
+  span_few fewer s =
+      (has_all (λ f. is_within_limits f ≡ true → weight scope f.terms ≤ 2 ^ 38 + 2 ^ 37 + 2 ^ 36) s.lower (λ f k limited. each f limited),
+      has_all (λ f. is_within_limits f ≡ true → weight scope f.terms ≤ 2 ^ 38 + 2 ^ 37 + 2 ^ 36) s.upper (λ f k limited. each f limited))
+    where
+      each : (f : Form) → is_within_limits f ≡ true → weight scope f.terms ≤ 2 ^ 38 + 2 ^ 37 + 2 ^ 36
+      each f limited =
+          let sized = weight_fewer fewer f.terms (within_limits-terms f limited) in
+          let count = within_limits-few f limited in
+          omega (arith, sized, count)
 
   pub span_light : (s : Span1) → IsLightSpan scope s
   span_light s = (has_all (IsLight scope) s.lower (λ f k. few_light f), has_all (IsLight scope) s.upper (λ f k. few_light f))

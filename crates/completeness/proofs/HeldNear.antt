@@ -1,7 +1,7 @@
 -- Whatever a function fetches, all numbers of each dimension hold its calls, where each of its definitions sets each variable at its own place, and around each store all symbols are of loops
 -- over some numbers near 0.
 use Rattle.std.proofs.Common.{◌≡◌, ℕ, zero, suc, ◌+◌, Bool, true, false, not, List, [], ◌∷◌, ◌++◌, length, map, Option, Some, None, IsSome, refl, sym, ap, ◌∙◌, subst, inr, append-nil, arith}
-use Rattle.std.specs.Prelude.{◌==◌, ◌≤ℤ◌, slice_get}
+use Rattle.std.specs.Prelude.{◌==◌, ◌≤ℤ◌, slice_get, ℤ}
 use Rattle.std.specs.List.{AllByRecursion, flat_map}
 use Rattle.std.proofs.lemmas.List.{length-map, length-append}
 use Rattle.numeric.specs.declared.ty.Ty.{Ty}
@@ -9,6 +9,7 @@ use Rattle.numeric.specs.declared.ty.Ty.TheVariants.{I32}
 use Rattle.tree.specs.Term.{Term, Terms}
 use Rattle.tree.specs.Typing.{type_of}
 use Rattle.lin.specs.declared.span.Span1.{Span1}
+use Rattle.lin.specs.Spans.{IsInSpan}
 use Rattle.bounds.proofs.ListSound.{all-append}
 use Rattle.tree.specs.Names.{IsIndex}
 use Rattle.lin.proofs.TermLemmas.{all_weaker}
@@ -44,7 +45,7 @@ use Rattle.completeness.proofs.ClaimLines.{known_stored}
 use Rattle.completeness.proofs.StoreLines.{named_callable}
 use Rattle.completeness.proofs.Written.{IsWritten, LeftIsOver, written, variables_long}
 use Rattle.completeness.proofs.RangedLefts.{left_got, left_typed}
-use Rattle.completeness.proofs.LeftNumbers.{ordered, spans_in, around_ordered}
+use Rattle.completeness.proofs.LeftNumbers.{ordered, spans_in, around_ordered, around_value}
 use Rattle.completeness.proofs.Standing.{Taken}
 use Rattle.lower.proofs.Laying.{bound, same}
 use Rattle.completeness.proofs.UpdateTurns.{known_update, ranges_turned, all_mapped}
@@ -147,7 +148,7 @@ module _ (a : Algorithm) (sch : Schedule) (l : Lowered) (well : IsAlgorithm a) (
       pub ranges_are : (b : BodyText) → slice_get bs d ≡ Some b → b.ranges ≡ map range_turning (ranges_of u.changes d)
       ranges_are b e = ranges_turned u.changes fs d b (ap (λ (rs : List (List ℕ)). slice_get (bodies_from u.changes 0 rs fs) d) (sym reductions) ∙ e)
 
-      ranges_box : (b : BodyText) → slice_get bs d ≡ Some b → AllByRecursion IsBoxTurn b.ranges
+      pub ranges_box : (b : BodyText) → slice_get bs d ≡ Some b → AllByRecursion IsBoxTurn b.ranges
       ranges_box b e =
           let each = all_weaker IsRange (λ r. IsBoxTurn (range_turning r)) range_box (ranges_of u.changes d) (ranges_within d formula there) in
           subst (AllByRecursion IsBoxTurn) (sym (ranges_are b e)) (all_mapped range_turning IsBoxTurn (ranges_of u.changes d) each)
@@ -207,6 +208,14 @@ module _ (a : Algorithm) (sch : Schedule) (l : Lowered) (well : IsAlgorithm a) (
           let z = bound (coordinates_behind a left formula [] 0 nest.at) (λ cs. Some (record left { coordinates = cs })) r stands_r in
           let is : record left { coordinates = z.value } ≡ r = same (record left { coordinates = z.value }) r z.comes in
           around_ordered a left r formula nest.at z.value refl z.is is boxes.boxes boxes.indices (apart d formula there) long lefts_typed
+
+      -- there is a number of what it stays within
+      pub value_there : (r : AroundText) → around a u (head_scope k) nest formula d ≡ Some r → (e : Term) (span : Span1) → interval_in a r e ≡ Some span →
+          IsSome (type_of (is_among (names d)) (called a) e) → (z : ℤ) × IsInSpan span (firsts r.scope) z
+      value_there r stands_r =
+          let z = bound (coordinates_behind a left formula [] 0 nest.at) (λ cs. Some (record left { coordinates = cs })) r stands_r in
+          let is : record left { coordinates = z.value } ≡ r = same (record left { coordinates = z.value }) r z.comes in
+          around_value a left r formula nest.at z.value refl z.is is boxes.boxes boxes.indices (apart d formula there) long lefts_typed
 
       -- and those of a left index
       pub left_in_order : (e : Term) (span : Span1) (ends : Ends) → interval_in a left e ≡ Some span → IsSome (type_of (is_among (names d)) (called a) e) → ends_of left.scope span ≡ Some ends →

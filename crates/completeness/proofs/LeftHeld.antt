@@ -63,6 +63,16 @@ use Rattle.completeness.proofs.Boxes.{IsLightSpan}
 use Rattle.completeness.proofs.NearBoxes.{IsBoxTurn}
 use Rattle.completeness.proofs.FreedEnds.{AreOver, inside_all, whole_inside}
 use Rattle.completeness.proofs.CallEnds.{IsIndexEnded}
+use Rattle.meaning.proofs.Calls.{none_is_input}
+use Rattle.meaning.proofs.Cases.{name_differs}
+use Rattle.headline.proofs.Lists.{at_map}
+use Rattle.lower.specs.Bounded.{is_on_input, is_in_region, is_call_bounded}
+use Rattle.lower.specs.Faults.{no_totals}
+use Rattle.completeness.proofs.Boxes.{AreBoxes}
+use Rattle.completeness.proofs.RegionBounds.{root_bounded, calls_bounded}
+use Rattle.completeness.proofs.SitesAt.{bounded_at}
+use Rattle.completeness.proofs.StoreLists.{region_nth}
+use Rattle.completeness.proofs.MoreNumbers.{IsFewSpan, more_numbers}
 use Rattle.completeness.proofs.LeftEnds.{own_ended, IsFirst, first_left, first_own, laid_from}
 use Rattle.completeness.proofs.LeftAlike.{beyond, formed_behind, ends_alike}
 use Rattle.completeness.proofs.RangeLoops.{AreOtherNames, AreNewNames, other_names, skeleton_ranges}
@@ -129,6 +139,11 @@ has_index : (es : Terms) (j : ℕ) (t : Term) → index_at es j ≡ Some t → H
 has_index End j t e = absurd (cc e)
 has_index (More u es) zero t e = inl (sym (same u t e))
 has_index (More u es) (suc j) t e = inr (has_index es j t e)
+
+-- the forms of what each index of these calls stays within go not far
+abbrev pub AreCallsFew : Algorithm → AroundText → List Written → Type 0
+AreCallsFew a r cs =
+    (i : ℕ) (c : Written) → slice_get cs i ≡ Some c → (e : Term) → HasIndex e c.at → (s : Span1) → interval_in a r e ≡ Some s → IsFewSpan r.scope s
 
 -- ---- the law
 
@@ -370,6 +385,41 @@ module _ (a : Algorithm) (sch : Schedule) (l : Lowered) (well : IsAlgorithm a) (
             let light : IsLightSpan scope s = subst (λ (z : AroundText). IsLightSpan z.scope s) (sym spans.2) (index.light f at_f r stands i c at_c t (has_index c.at j t at_t) s found) in
             (lies t s end span_is le only light y goes).0
 
+        -- an index of a call of the function itself there is shown to lie in the dimension, as `lower` tests it
+        own_shown : (i : ℕ) (c : Written) → slice_get (calls_in f) i ≡ Some c → c.name ≡ u.subject.name → (t : Term) → index_at c.at j ≡ Some t → (s : Span1) → interval_in a r t ≡ Some s →
+            span_inside r.scope s (whole x) ≡ true
+        own_shown i c at_c name t at_t s found =
+            let spans_here = map whole m.region in
+            let root = root_bounded a (has_large gs) no_totals gs (laid_functions a gs) kept n u fs m at defined laid in
+            let b = bounded_at a u (head_scope k) spans_here 0 fs k.nests root d f w at_f at_w in
+            let none : 0 + d ≡ d = omega arith in
+            let known : b.known ≡ r = some_same b.known r (sym b.is ∙ ap (around a u (head_scope k) w f) none ∙ stands) in
+            let all = calls_bounded a b.known f spans_here u.subject.name (calls_in f) b.bounded in
+            let one = got (λ c. is_call_bounded a b.known f spans_here u.subject.name c ≡ Some true) (calls_in f) i c all at_c in
+            let function_name : u.subject.name ≡ w'.function.name = ap (λ (y : StoredText). y.subject.name) w'.is in
+            let no_input : same_name c.name a.input ≡ false =
+            ap (λ (y : List ℕ). same_name y a.input) (name ∙ function_name) ∙ name_differs w'.function.name a.input (none_is_input a well.names w'.place w'.function w'.at) in
+            let in_region : is_in_region a b.known f 0 c.at spans_here ≡ Some true =
+            sym ((λ v. if no_input v then is_on_input a b.known c.at a.input_extents else (if named_own c name v then is_in_region a b.known f 0 c.at spans_here else Some true))) ∙ one in
+            let zero_on : 0 + j ≡ j = omega arith in
+            let told = region_nth a b.known f 0 c.at spans_here in_region j t (whole x) e at_t (at_map whole m.region j x at_x) (ap (left_at f) zero_on ∙ left_j) in
+            let is : told.0 ≡ s = some_same told.0 s (sym told.1 ∙ ap (λ (z : AroundText). interval_in a z t) known ∙ found) in
+            (λ v. span_inside (sym (ap (λ (z : AroundText). z.scope) known) v) (sym is v) (whole x)) ∙ told.2
+
+        -- so it does in one that goes on behind it, where its forms go not far
+        own_few : (i : ℕ) (c : Written) → slice_get (calls_in f) i ≡ Some c → c.name ≡ u.subject.name → (t : Term) → index_at c.at j ≡ Some t → (s : Span1) →
+            interval_in a r t ≡ Some s → IsFewSpan r.scope s → (y : Extent) → GoesOn x y → span_inside r.scope s (whole y) ≡ true
+        own_few i c at_c name t at_t s found few_here y goes =
+            let extent : IsExtent x = got IsExtent m.region j x (region_is a gs n u m at laid).extents at_x in
+            let last : IsEnded x = got IsEnded m.region j x (region_ends a gs n u m at laid) at_x in
+            let boxes_r : AreBoxes r.scope = subst (λ (z : AroundText). AreBoxes z.scope) spans.2 index.boxes in
+            let names = names_with u.variables u.changes d in
+            let typed_call = got (λ (c : Written). IsTypedCall (is_among names) (called a) c.name c.at) (calls_in f) i c
+            (near.typed a sch l well legal small kept all groups n u at fs defined m laid over formed boxed d f w at_f at_w) at_c in
+            let typed : type_of (is_among names) (called a) t ≡ Some I32 = typed_nth (is_among names) (called a) c.at j t typed_call.0 at_t in
+            let value = near.value_there a sch l well legal small kept all groups n u at fs defined m laid over formed boxed d f w at_f at_w r stands t s found (subst IsSome (sym typed) refl) in
+            more_numbers r.scope boxes_r s few_here value.0 value.1 x y extent last goes (own_shown i c at_c name t at_t s found)
+
     -- so it is of all of them
     pub lefts_held : AreLeftsHeld a u fs m.region k
     lefts_held d f w r at_f at_w stands j e x y s at_j at_x goes at_s =
@@ -388,3 +438,12 @@ module _ (a : Algorithm) (sch : Schedule) (l : Lowered) (well : IsAlgorithm a) (
         let h = own_held d f w r at_f at_w stands j e at_j x at_x i c at_c name t at_t (settled d j i f e t c at_f at_j at_c name at_t) s found y goes in
         let scope_is = ap (λ (z : AroundText). z.scope) (spans d f w r at_f at_w stands j e at_j).2 in
         ap (λ (sc : List Binding). span_inside sc s (whole y)) (sym scope_is) ∙ h)
+
+    -- whatever asking for the region came to, where the forms of all its calls' indices go not far
+    pub owns_few : ((d : ℕ) (f : FormulaText) (w : NestText) (r : AroundText) → slice_get fs d ≡ Some f → slice_get k.nests d ≡ Some w → around a u (head_scope k) w f d ≡ Some r →
+        AreCallsFew a r (calls_in f)) → AreOwnHeld a u fs m.region k
+    owns_few few d f w r at_f at_w stands =
+        all_slices (λ (c : Written). c.name ≡ u.subject.name → (j : ℕ) (e t : Term) (x y : Extent) (s : Span1) → slice_get f.at j ≡ Some (Some e) → slice_get m.region j ≡ Some x → GoesOn x y →
+        index_at c.at j ≡ Some t → interval_in a r t ≡ Some s → span_inside r.scope s (whole y) ≡ true) (calls_in f)
+        (λ i c at_c name j e t x y s at_j at_x goes at_t found.
+        own_few d f w r at_f at_w stands j e at_j x at_x i c at_c name t at_t s found (few d f w r at_f at_w stands i c at_c t (has_index c.at j t at_t) s found) y goes)

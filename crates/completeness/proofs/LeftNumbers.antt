@@ -154,3 +154,12 @@ module _ (a : Algorithm) (left r : AroundText) (f : FormulaText) (os : List (Opt
       ends.low ≤ℤ ends.high
   around_ordered e span ends bounds typed freed =
       ordered_here e span ends (ap (λ (t : AroundText). interval_in a t e) is ∙ bounds) typed (ap (λ (t : AroundText). ends_of t.scope span) is ∙ freed)
+
+  -- there is a number of what such an index stays within, at the first numbers of loops
+  pub around_value : (e : Term) (span : Span1) → interval_in a r e ≡ Some span → IsSome (type_of (is_among left.variables) (called a) e) → (z : ℤ) × IsInSpan span (firsts r.scope) z
+  around_value e span bounds typed =
+      let inside = coordinates_in [] [] 0 os cs tt stands in
+      let far_enough = long ∙ sym (numbers_long 0 os) in
+      let z = value a around_it boxes (numbers 0 os) (numbers_index 0 os indices) apart far_enough inside e in
+      let lies = value_lies a around_it boxes (numbers 0 os) (numbers_index 0 os indices) apart far_enough inside e span (ap (λ (t : AroundText). interval_in a t e) is ∙ bounds) typed in
+      (z, subst (λ (t : AroundText). IsInSpan span (firsts t.scope) z) is lies)

@@ -216,3 +216,4 @@ pub mod MadeFiles
 pub mod Renumbered
 pub mod RangeLoops
 pub mod LeftAlike
+pub mod MoreNumbers

@@ -81,7 +81,7 @@ limits_alone a s l well legal small regions groups fills named =
         let x = from_map group_of l.plan.groups.items n g at in
         let me = made_at a s l well legal small (regions fills.whole).0 fills.whole groups n x.0 x.1 in
         elim (near_blocked_owed a s l well legal small regions groups fills.whole (named_no_load a named) lines_stand grids symbols near n g at me.stored me.is
-        (fills.once n me.stored me.is) me.formulas me.defined me.laid me.found (fills.placed n me.stored me.is me.formulas me.defined me.laid me.found)
+        (fills.once n me.stored me.is) me.formulas me.defined me.laid me.found
         (fills.near n me.stored me.is me.formulas me.defined me.laid me.found)) [
           | inl shown ↦ inl (shown (slid_nests (outline_of p c n g) (rules_of a p c n) (domains_of a)) (slid_take a p c n g))
           | inr elsewhere ↦ inr elsewhere

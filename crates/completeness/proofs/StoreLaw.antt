@@ -22,13 +22,13 @@ use Rattle.completeness.proofs.BlockStores.{group_at, StoresAreShown, blocked_ei
 use Rattle.completeness.proofs.BlockNear.{blocked_held}
 
 pub store_lines_owed : StoreLinesOweShown
-store_lines_owed a s l well legal small regions groups all free told grids few n g at u stands split_once fs defined r laid set simple early =
+store_lines_owed a s l well legal small regions groups all free told grids few n g at u stands split_once fs defined r laid simple early =
     let p = plan_of l.plan in
     let c = certificate_of l.certificate in
     let o = outline_of p c n g in
     let rules = rules_of a p c n in
     let x = from_map group_of l.plan.groups.items n g at in
-    let h = tailed_held a s l well legal small (regions all).0 all groups n x.0 x.1 u stands split_once.once split_once.inners fs defined r laid set (inl simple) in
+    let h = tailed_held a s l well legal small (regions all).0 all groups n x.0 x.1 u stands split_once.once split_once.inners fs defined r laid (inl simple) in
     let at_group = group_at a s l well legal small (regions all).0 all groups told free grids few n x.0 x.1 u stands split_once.once split_once.inners fs defined r laid
     h.1 h.2 h.0 in
     let shown = subst (λ (y : Group). StoresAreShown a s l well legal small (regions all).0 all groups told free grids few n y) (sym x.2) (at_group.all_shown early) in
@@ -39,16 +39,16 @@ store_lines_owed a s l well legal small regions groups all free told grids few n
     (λ t line k h q is tests. all_names o rules tests (obligations o rules t line k) (h is tests) (q is tests)) g.body (body_line p n) (start (grid_binders g.grid)) names shown
 
 pub near_blocked_owed : NearBlockedGroupsOweShown
-near_blocked_owed a s l well legal small regions groups all free told grids few near n g at u stands split_once fs defined r laid set close =
+near_blocked_owed a s l well legal small regions groups all free told grids few near n g at u stands split_once fs defined r laid close =
     let x = from_map group_of l.plan.groups.items n g at in
     elim close [
       | inl (inl region) ↦
-          (let h = tailed_held a s l well legal small (regions all).0 all groups n x.0 x.1 u stands split_once.once split_once.inners fs defined r laid set (inr region) in
+          (let h = tailed_held a s l well legal small (regions all).0 all groups n x.0 x.1 u stands split_once.once split_once.inners fs defined r laid (inr region) in
           blocked_either a s l well legal small regions groups all free told grids few near n g at u stands split_once fs defined r laid h.1 h.2 h.0)
       | inl (inr kept) ↦
-          (let h = blocked_held a s l well legal small (regions all).0 all groups n x.0 x.1 u stands kept.0 fs defined r laid set kept.1 in
+          (let h = blocked_held a s l well legal small (regions all).0 all groups n x.0 x.1 u stands kept.0 fs defined r laid kept.2 kept.1 in
           blocked_either a s l well legal small regions groups all free told grids few near n g at u stands split_once fs defined r laid h.1 h.2 h.0)
       | inr simple ↦
-          (let h = tailed_held a s l well legal small (regions all).0 all groups n x.0 x.1 u stands split_once.once split_once.inners fs defined r laid set (inl simple) in
+          (let h = tailed_held a s l well legal small (regions all).0 all groups n x.0 x.1 u stands split_once.once split_once.inners fs defined r laid (inl simple) in
           blocked_either a s l well legal small regions groups all free told grids few near n g at u stands split_once fs defined r laid h.1 h.2 h.0)
     ]

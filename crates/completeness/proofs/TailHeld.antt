@@ -37,9 +37,9 @@ use Rattle.sched.specs.Placing.{is_parallel}
 use Rattle.sched.specs.Standing.{form_named, counted_from}
 use Rattle.sched.specs.Skeleton.{BodyText, NestText, SkeletonText, range_turning, loop_turning, nest_turns, variables_at, ranges_at, grid_forms}
 use Rattle.lower.specs.declared.lowering.Lowered.{Lowered}
-use Rattle.lower.specs.Stored.{FormulaText, StoredText, stored_functions, has_large}
+use Rattle.lower.specs.Stored.{FormulaText, StoredText, stored_functions, has_large, calls_in}
 use Rattle.lower.specs.Faults.{are_whole, region_fault}
-use Rattle.lower.specs.Around.{bind_steps, grid_symbol, grid_scope, head_scope, range_names, ranges_of}
+use Rattle.lower.specs.Around.{bind_steps, grid_symbol, grid_scope, head_scope, range_names, ranges_of, AroundText, around}
 use Rattle.lower.specs.Owning.{IsExtent, IsLaidBy}
 use Rattle.lower.specs.Regions.{LaidText, bodies_from, skeleton_of, laid_functions}
 use Rattle.lower.specs.Groups.{HasBody, HasGroups}
@@ -51,9 +51,9 @@ use Rattle.completeness.specs.Laws.{AreSplitOnce}
 use Rattle.completeness.specs.Parted.{KeepsInner}
 use Rattle.completeness.specs.Stores.{IsCloseRegion, AreHeld}
 use Rattle.completeness.specs.Simple.{has_simple_indices, SimpleIndices}
-use Rattle.completeness.specs.Placed.{IsOverRanges, IsSettled, ArePlaced, AreLeftsHeld, AreOwnHeld}
+use Rattle.completeness.specs.Placed.{AreLeftsHeld, AreOwnHeld}
 use Rattle.completeness.proofs.RangeLoops.{AreNewNames}
-use Rattle.completeness.proofs.LeftHeld.{lefts_held, owns_held}
+use Rattle.completeness.proofs.LeftHeld.{lefts_held, owns_few, AreCallsFew}
 use Rattle.completeness.proofs.Owned.{some_same, same_extents, same_skeleton}
 use Rattle.completeness.proofs.Served.{roots, made_at}
 use Rattle.completeness.proofs.NamedClaims.{alone_body}
@@ -65,7 +65,7 @@ use Rattle.completeness.proofs.Boxes.{AreBoxes, weight_at, span_light}
 use Rattle.completeness.proofs.FirstNumbers.{firsts, number_at, index_near}
 use Rattle.completeness.proofs.NearBoxes.{IsFew, IsBoxTurn, IsTurn as IsSizedTurn, box_turn, regions_few, AreFewNumbers, turn_few, IsCount}
 use Rattle.completeness.proofs.RangedBoxes.{turns_all}
-use Rattle.completeness.proofs.HeldNear.{IsFormed, IsIndexed, held_near}
+use Rattle.completeness.proofs.HeldNear.{IsFormed, IsIndexed, held_near, ranges_box}
 use Rattle.completeness.proofs.BlockDims.{top, top_low, blocks_top}
 use Rattle.std.proofs.lemmas.Option.{slice_get_within}
 use Rattle.plan.specs.declared.stmt.Pick.TheVariants.{Min}
@@ -79,7 +79,7 @@ use Rattle.completeness.proofs.TailSteps.{is_loop}
 use Rattle.completeness.proofs.TailTurns.{Entry, entry_steps, is_shifted, Right, IsTurn, IsLet, IsEntry}
 use Rattle.completeness.proofs.TailSkeletons.{IsTailNest, AreTails}
 use Rattle.completeness.proofs.StoreShapes as shapes_of
-use Rattle.completeness.proofs.BlockNear.{few_calls_light, IsLightIf, variables_so, ranges_so, kept_light, lefts_light, simple_light}
+use Rattle.completeness.proofs.BlockNear.{few_calls_light, IsLightIf, variables_so, ranges_so, kept_light, lefts_light, simple_light, simple_few, few_calls_few}
 use Rattle.completeness.proofs.TailNear.{all_close, IsGood, store_boxes, right_good}
 use Rattle.completeness.proofs.StoreTails.{lets_count, room_for}
 use Rattle.completeness.proofs.ShortShifts.{long_shifts}
@@ -472,6 +472,17 @@ module _ (a : Algorithm) (sch : Schedule) (l : Lowered) (well : IsAlgorithm a) (
           lefts = λ f e j t at_j s found. span_light (bind_steps (head_scope k) w.steps) more (inr few_so) s;
         }
 
+    -- the forms of what indices of calls stay within go not far
+    calls_few : SimpleIndices fs ⊎ IsCloseRegion g h.extents → (d : ℕ) (f : FormulaText) (w : NestText) → slice_get fs d ≡ Some f → slice_get k.nests d ≡ Some w →
+        ((b : BodyText) → slice_get bs d ≡ Some b → AllByRecursion IsBoxTurn b.ranges) → (r : AroundText) → around a g (head_scope k) w f d ≡ Some r → AreCallsFew a r (calls_in f)
+    calls_few (inl simple) d f w at_f stands ranges r stands_r =
+        let v = shape_here.nests d w stands in
+        simple_few a g (head_scope k) w f d (simple_at simple d f at_f) (all_light d w stands (ranges v.body v.at)) r stands_r
+    calls_few (inr close) d f w at_f stands ranges r stands_r =
+        let v = shape_here.nests d w stands in
+        let few_so = weights_here d w stands (ranges v.body v.at) close in
+        few_calls_few a g (head_scope k) w f d (λ i. let less = few_so i in omega (arith, less)) few_so r stands_r
+
     formed_here : (d : ℕ) (w : NestText) → slice_get k.nests d ≡ Some w → IsFormed xs bs d w
     formed_here d w stands = (let v = shape_here.nests d w stands in record { body = v.body; at = v.at; known = v.known; forms = v.forms })
 
@@ -492,9 +503,8 @@ module _ (a : Algorithm) (sch : Schedule) (l : Lowered) (well : IsAlgorithm a) (
     -- so what is fetched holds the calls
     held_here : SimpleIndices fs ⊎ IsCloseRegion g h.extents → (m : LaidText) → slice_get (laid_functions a gs) n ≡ Some (Some m) → m.skeleton ≡ k → skeleton_of g fs m.region ≡ Some
         m.skeleton → g.formulas ≡ Some fs →
-        ArePlaced a g fs m →
         AreHeld a gs n g fs m.skeleton × AreLeftsHeld a g fs m.region m.skeleton × AreOwnHeld a g fs m.region m.skeleton
-    held_here simple m found_there same_skeleton_so over defined settled =
+    held_here simple m found_there same_skeleton_so over defined =
         let forms : (d : ℕ) (w : NestText) → slice_get m.skeleton.nests d ≡ Some w → IsFormed xs bs d w =
         λ d w stands. formed_here d w (ap (λ (y : SkeletonText). slice_get y.nests d) (sym same_skeleton_so) ∙ stands) in
         let boxes : (d : ℕ) (w : NestText) → slice_get m.skeleton.nests d ≡ Some w → ((b : BodyText) → slice_get bs d ≡ Some b → AllByRecursion IsBoxTurn b.ranges) →
@@ -505,15 +515,20 @@ module _ (a : Algorithm) (sch : Schedule) (l : Lowered) (well : IsAlgorithm a) (
         λ d w stands. new_names d w (ap (λ (y : SkeletonText). slice_get y.nests d) (sym same_skeleton_so) ∙ stands) in (
           held_near a sch l well legal small kept all groups n g at fs defined m found_there over forms boxes,
           lefts_held a sch l well legal small kept all groups n g at fs defined m found_there over forms boxes others once names,
-          owns_held a sch l well legal small kept all groups n g at fs defined m found_there over forms boxes others once names settled,
+          owns_few a sch l well legal small kept all groups n g at fs defined m found_there over forms boxes others once names
+              (λ d f w r at_f at_w stands_r.
+              let here : slice_get k.nests d ≡ Some w = ap (λ (y : SkeletonText). slice_get y.nests d) (sym same_skeleton_so) ∙ at_w in
+              calls_few simple d f w at_f here
+                  (ranges_box a sch l well legal small kept all groups n g at fs defined m found_there over forms boxes d f w at_f at_w) r
+                  (ap (λ (y : SkeletonText). around a g (head_scope y) w f d) (sym same_skeleton_so) ∙ stands_r)),
         )
 
   -- of a group of the plan
   pub tailed_held : (n : ℕ) (q : CodeGroup) → slice_get l.plan.groups.items n ≡ Some q → (u : StoredText) → slice_get gs n ≡ Some u → AreSplitOnce u.placed.cuts → KeepsInner u.placed.loops
       u.placed.cuts → (fs : List FormulaText) →
-      u.formulas ≡ Some fs → (m : LaidText) → slice_get (laid_functions a gs) n ≡ Some (Some m) → ArePlaced a u fs m → SimpleIndices fs ⊎ IsCloseRegion u m.region →
+      u.formulas ≡ Some fs → (m : LaidText) → slice_get (laid_functions a gs) n ≡ Some (Some m) → SimpleIndices fs ⊎ IsCloseRegion u m.region →
       AreHeld a gs n u fs m.skeleton × AreLeftsHeld a u fs m.region m.skeleton × AreOwnHeld a u fs m.region m.skeleton
-  tailed_held n q theirs u at once_only inners_only fs defined m found_there set simple =
+  tailed_held n q theirs u at once_only inners_only fs defined m found_there simple =
       let me = made_at a sch l well legal small kept all groups n q theirs in
       let r = alone_body a (roots a sch l well legal small kept all groups) items 0 0 4 gs l.plan.groups.items items l.certificate.needs.items (groups.bodies all)
       (λ j v e. let none : 0 + j ≡ j = omega arith in ap (slice_get items) none ∙ e) n me.stored q me.is theirs in
@@ -547,14 +562,7 @@ module _ (a : Algorithm) (sch : Schedule) (l : Lowered) (well : IsAlgorithm a) (
       subst (λ (vs : List FormulaText). skeleton_of me.stored vs me.laid.region ≡ Some me.laid.skeleton)
       (same me.formulas body.formulas (sym me.defined ∙ body.defined)) me.over in
       let here = held_here n b.first_claim b.line me.stored q b.claims b.needs me.is theirs body begins b.numbered own laid once_here inners_here roomy few_here simple_here
-      me.laid me.found skeleton over body.defined
-      (λ d j i f e t c at_f at_e at_c name at_t.
-      elim (set d j i f e t c (ap (λ (vs : List FormulaText). slice_get vs d) (sym formulas) ∙ at_f) at_e at_c (name ∙ ap (λ (y : StoredText). y.subject.name) stored) at_t) [
-        | inl o ↦ inl (subst (λ (y : StoredText). IsOverRanges a y d t) (sym stored) o)
-        | inr v ↦
-            inr (subst (λ (y : LaidText). IsSettled a me.stored body.formulas y) (sym region) (subst (λ (vs : List FormulaText). IsSettled a me.stored vs m) (sym formulas)
-            (subst (λ (y : StoredText). IsSettled a y fs m) (sym stored) v)))
-      ]) in
+      me.laid me.found skeleton over body.defined in
       let held_there : AreHeld a gs n u fs m.skeleton =
       subst (λ (y : LaidText). AreHeld a gs n u fs y.skeleton) region
       (subst (λ (vs : List FormulaText). AreHeld a gs n u vs me.laid.skeleton) formulas (subst (λ (y : StoredText). AreHeld a gs n y body.formulas me.laid.skeleton) stored here.0)) in

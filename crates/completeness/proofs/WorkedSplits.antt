@@ -1,7 +1,6 @@
--- The schedule that is written out splits loops plainly, by computation.
-use Rattle.std.proofs.Common.{◌≡◌, ℕ, zero, suc, List, [], ◌∷◌, Option, Some, None, map, refl, sym, ap, ◌∙◌, subst, inr}
-use Rattle.std.specs.Prelude.{pos, slice_get}
-use Rattle.tree.specs.Term.{Term}
+-- The schedule that is written out is a core schedule, by computation.
+use Rattle.std.proofs.Common.{◌≡◌, ℕ, zero, suc, List, [], ◌∷◌, Option, Some, None, map, refl, sym, ap, ◌∙◌, subst}
+use Rattle.std.specs.Prelude.{slice_get}
 use Rattle.meaning.specs.Algorithm.{Function}
 use Rattle.sched.specs.Subjects.{subject_said}
 use Rattle.sched.specs.Legal.{said, loops_after}
@@ -10,8 +9,6 @@ use Rattle.lower.specs.Regions.{LaidText, laid_functions}
 use Rattle.lower.specs.Bodies.{step_lines}
 use Rattle.completeness.specs.Fitting.{IsSplitOnce}
 use Rattle.completeness.specs.Simple.{SimpleIndices}
-use Rattle.completeness.specs.Filled.{IsNearOrSimple}
-use Rattle.completeness.specs.Placed.{IsSettled, ArePlaced}
 use Rattle.completeness.specs.Worked.{reader, caller, two_functions, both_split, SplitsFill}
 use Rattle.completeness.proofs.Owned.{some_same}
 
@@ -59,46 +56,11 @@ laid_in : Option (Option LaidText) → LaidText
 laid_in (Some (Some l)) = l
 laid_in _ = record { region = []; skeleton = record { grid = []; head = []; nests = []; known = []; starts = [] } }
 
--- the left index at a place of a definition, where it has one
-lefts_in : Option FormulaText → ℕ → Option (Option Term)
-lefts_in (Some f) j = slice_get f.at j
-lefts_in None j = None
-
-abbrev left_in : List FormulaText → ℕ → ℕ → Option (Option Term)
-left_in fs d j = lefts_in (slice_get fs d) j
-
-left_there : (fs : List FormulaText) (d j : ℕ) (f : FormulaText) (e : Term) → slice_get fs d ≡ Some f → slice_get f.at j ≡ Some (Some e) → left_in fs d j ≡ Some (Some e)
-unfolding lefts_in
-left_there fs d j f e at_f at_e = ap (λ (o : Option FormulaText). lefts_in o j) at_f ∙ at_e
-
 abbrev laid_first : LaidText
 laid_first = laid_in (slice_get (laid_functions two_functions gs) 0)
 
 abbrev laid_second : LaidText
 laid_second = laid_in (slice_get (laid_functions two_functions gs) 1)
-
--- the other has no left index that is no variable
-none_left : (d j : ℕ) (e : Term) → left_in (formulas_in second.formulas) d j ≡ Some (Some e) → ⊥
-unfolding lefts_in formulas_in
-none_left zero zero e q = cc q
-none_left zero (suc zero) e q = cc q
-none_left zero (suc (suc j)) e q = cc q
-none_left (suc d) j e q = cc q
-
-first_settled : IsSettled two_functions first (formulas_in first.formulas) laid_first
-unfolding formulas_in laid_in
-first_settled = (
-  Some (record { low = pos 0; high = pos 7 }) ∷ Some (record { low = pos 0; high = pos 4 }) ∷ [],
-  Some (record { low = pos 0; high = pos 7 }) ∷ Some (record { low = pos 0; high = pos 4 }) ∷ [],
-  refl,
-  refl,
-)
-
-first_placed : ArePlaced two_functions first (formulas_in first.formulas) laid_first
-first_placed d j i f e t c at_f at_e at_c name at_t = inr first_settled
-
-second_placed : ArePlaced two_functions second (formulas_in second.formulas) laid_second
-second_placed d j i f e t c at_f at_e at_c name at_t = absurd (none_left d j e (left_there (formulas_in second.formulas) d j f e at_f at_e))
 
 as_found : (g u : StoredText) (fs : List FormulaText) → g ≡ u → u.formulas ≡ Some fs → formulas_in g.formulas ≡ fs
 unfolding formulas_in
@@ -107,21 +69,6 @@ as_found g u fs is e = ap (λ (v : StoredText). formulas_in v.formulas) is ∙ a
 as_laid : (n : ℕ) (r : LaidText) → slice_get (laid_functions two_functions gs) n ≡ Some (Some r) → laid_in (slice_get (laid_functions two_functions gs) n) ≡ r
 unfolding laid_in
 as_laid n r at = ap laid_in at
-
-placed : (n : ℕ) (u : StoredText) → slice_get gs n ≡ Some u → (fs : List FormulaText) → u.formulas ≡ Some fs → (r : LaidText) →
-    slice_get (laid_functions two_functions gs) n ≡ Some (Some r) → ArePlaced two_functions u fs r
-placed zero u at fs e r there =
-    subst (ArePlaced two_functions u fs) (as_laid 0 r there)
-    (subst (λ (vs : List FormulaText). ArePlaced two_functions u vs laid_first) (as_found first u fs (first_is u at) e)
-    (subst (λ (v : StoredText). ArePlaced two_functions v (formulas_in first.formulas) laid_first) (first_is u at) first_placed))
-placed (suc zero) u at fs e r there =
-    subst (ArePlaced two_functions u fs) (as_laid 1 r there)
-    (subst (λ (vs : List FormulaText). ArePlaced two_functions u vs laid_second) (as_found second u fs (second_is u at) e)
-    (subst (λ (v : StoredText). ArePlaced two_functions v (formulas_in second.formulas) laid_second) (second_is u at) second_placed))
-placed (suc (suc n)) u at fs e r there = absurd (no_more u at)
-  where
-    no_more : (u : StoredText) → None ≡ Some u → ⊥
-    no_more u q = cc q
 
 -- the indices of both are simple
 first_simple : SimpleIndices (formulas_in first.formulas)
@@ -132,13 +79,10 @@ second_simple : SimpleIndices (formulas_in second.formulas)
 unfolding formulas_in
 second_simple = (refl, tt)
 
-near : (n : ℕ) (u : StoredText) → slice_get gs n ≡ Some u → (fs : List FormulaText) → u.formulas ≡ Some fs → (r : LaidText) →
-    slice_get (laid_functions two_functions gs) n ≡ Some (Some r) → IsNearOrSimple two_functions both_split n u fs r.region
-near zero u at fs e r laid =
-    inr (subst SimpleIndices (as_found first u fs (first_is u at) e) first_simple)
-near (suc zero) u at fs e r laid =
-    inr (subst SimpleIndices (as_found second u fs (second_is u at) e) second_simple)
-near (suc (suc n)) u at fs e r laid = absurd (no_more u at)
+simple : (n : ℕ) (u : StoredText) → slice_get gs n ≡ Some u → (fs : List FormulaText) → u.formulas ≡ Some fs → SimpleIndices fs
+simple zero u at fs e = subst SimpleIndices (as_found first u fs (first_is u at) e) first_simple
+simple (suc zero) u at fs e = subst SimpleIndices (as_found second u fs (second_is u at) e) second_simple
+simple (suc (suc n)) u at fs e = absurd (no_more u at)
   where
     no_more : (u : StoredText) → None ≡ Some u → ⊥
     no_more u q = cc q
@@ -161,7 +105,7 @@ second_lines = refl
 
 pub splits_are_plain : SplitsFill
 splits_are_plain = record {
-  plain = record { whole = refl; once = once; placed = placed; near = near };
+  core = record { once = record { whole = refl; once = once }; simple = simple };
   head = λ r e. ap (λ (y : LaidText). step_lines y.skeleton.head) (sym (as_laid 1 r e)) ∙ head_lines;
   first = λ r e. ap nest_lines (sym (as_laid 0 r e)) ∙ first_lines;
   second = λ r e. ap nest_lines (sym (as_laid 1 r e)) ∙ second_lines;

@@ -44,10 +44,10 @@ AreEndsShort rs cs =
     AllByRecursion
     (λ c. is_tailed rs c ≡ false → has_rest c (numbers_named rs c.whole).count ≡ true → (last_number (numbers_named rs c.whole) +ℤ pos c.factor) ≤ℤ pos 2147483647) cs
 
--- the region that is needed of the function begins within 2^15 of 0, as, nearly, its reduction ranges do; or within 2^16, and its blocks need no line of their own; or,
--- wherever it begins, each index of its definitions is simple
-abbrev pub IsNearOrSimple : Algorithm → Schedule → ℕ → StoredText → List FormulaText → List Extent → Type 0
-IsNearOrSimple a s n u fs es = (IsCloseRegion u es ⊎ (IsKept a s n u × IsNearRegion es)) ⊎ SimpleIndices fs
+-- the region that is needed of the function begins within 2^15 of 0, as, nearly, its reduction ranges do; or within 2^16, its blocks need no line of their own, and
+-- asking for it came to an end, where indices of own calls may leave it; or, wherever it begins, each index of its definitions is simple
+abbrev pub IsNearOrSimple : Algorithm → Schedule → ℕ → StoredText → List FormulaText → LaidText → Type 0
+IsNearOrSimple a s n u fs r = (IsCloseRegion u r.region ⊎ (IsKept a s n u × IsNearRegion r.region × ArePlaced a u fs r)) ⊎ SimpleIndices fs
 
 -- of a group with a number that is not shown to be small: what its lines owe is shown but at such a line, of which that is told (K14); and none of its stores
 -- leaves its buffer, of which else what it owes is told before
@@ -80,8 +80,8 @@ NearBlockedGroupsOweShown =
     → are_whole (stored_functions a s) ≡ true → NamesNoLoad a → AreLinesTold (plan_of l.plan) → AreGridsFew (plan_of l.plan) → AreSymbolsFew (plan_of l.plan)
     → AreClaimsNear (certificate_of l.certificate)
     → (n : ℕ) (g : Group) → slice_get (plan_of l.plan).groups n ≡ Some g → (u : StoredText) → slice_get (stored_functions a s) n ≡ Some u → IsSplitOnce u
-    → (fs : List FormulaText) → u.formulas ≡ Some fs → (r : LaidText) → slice_get (laid_functions a (stored_functions a s)) n ≡ Some (Some r) → ArePlaced a u fs r
-    → IsNearOrSimple a s n u fs r.region
+    → (fs : List FormulaText) → u.formulas ≡ Some fs → (r : LaidText) → slice_get (laid_functions a (stored_functions a s)) n ≡ Some (Some r)
+    → IsNearOrSimple a s n u fs r
     → GroupShown TakeSplit a (plan_of l.plan) (certificate_of l.certificate) n g ⊎ IsShownElsewhere a (plan_of l.plan) (certificate_of l.certificate) n g
 
 -- of each function whose loops are split once, whatever the tails and in whatever order the loops stand, whose indices are simple and whose blocks reach numbers
@@ -92,6 +92,6 @@ StoreLinesOweShown =
     → are_whole (stored_functions a s) ≡ true → NamesNoLoad a → AreLinesTold (plan_of l.plan) → AreGridsFew (plan_of l.plan) → AreSymbolsFew (plan_of l.plan)
     → (n : ℕ) (g : Group) → slice_get (plan_of l.plan).groups n ≡ Some g → (u : StoredText) → slice_get (stored_functions a s) n ≡ Some u
     → IsSplitOnce u → (fs : List FormulaText) → u.formulas ≡ Some fs → (r : LaidText) → slice_get (laid_functions a (stored_functions
-    a s)) n ≡ Some (Some r) → ArePlaced a u fs r
+    a s)) n ≡ Some (Some r)
     → SimpleIndices fs → AreEndsShort (loop_numbers u.subject.variables u.placed.cuts r.region) u.placed.cuts
     → OweShown IsStore a (plan_of l.plan) (certificate_of l.certificate) n g

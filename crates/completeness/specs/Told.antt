@@ -26,22 +26,28 @@ use Rattle.lower.specs.Regions.{LaidText, laid_functions}
 use Rattle.lower.specs.Faults.{are_whole}
 use Rattle.lower.specs.Refused.{AreSmall, AreRegionsKept}
 use Rattle.lower.specs.Groups.{AreGroupsMade}
-use Rattle.completeness.specs.Placed.{ArePlaced}
-use Rattle.completeness.specs.Fitting.{IsSplitOnce}
+use Rattle.completeness.specs.Fitting.{IsSplitOnce, SplitsOnce}
 use Rattle.completeness.specs.Laws.{AreLinesTold}
+use Rattle.completeness.specs.Simple.{SimpleIndices}
 use Rattle.completeness.specs.Filled.{IsNearOrSimple, IsShownElsewhere}
 
 -- each stored function is a root function that is computed at no loop; its loops are split once at most, no inner one parallel, whatever the tails and in
--- whatever order they stand; where a left index of its updates is no variable, each index of a call of the function itself at its
--- place is over reduction variables alone, or asking for its region came to an end; and each index of its definitions is simple, or the region that is needed
--- of it begins near 0, and no split is with `shift`, nor with a `guard` that keeps numbers by a line of its own
+-- whatever order they stand; and each index of its definitions is simple, or the region that is needed of it begins near 0
 pub record SplitsPlainly (a : Algorithm) (s : Schedule) : Type 0 where
   pub whole : are_whole (stored_functions a s) ≡ true
   pub once : (n : ℕ) (u : StoredText) → slice_get (stored_functions a s) n ≡ Some u → IsSplitOnce u
-  pub placed : (n : ℕ) (u : StoredText) → slice_get (stored_functions a s) n ≡ Some u → (fs : List FormulaText) → u.formulas ≡ Some fs
-      → (r : LaidText) → slice_get (laid_functions a (stored_functions a s)) n ≡ Some (Some r) → ArePlaced a u fs r
   pub near : (n : ℕ) (u : StoredText) → slice_get (stored_functions a s) n ≡ Some u → (fs : List FormulaText) → u.formulas ≡ Some fs →
-      (r : LaidText) → slice_get (laid_functions a (stored_functions a s)) n ≡ Some (Some r) → IsNearOrSimple a s n u fs r.region
+      (r : LaidText) → slice_get (laid_functions a (stored_functions a s)) n ≡ Some (Some r) → IsNearOrSimple a s n u fs r
+
+-- a core schedule: no function is computed inside a loop, loops are split once at most, no inner one of a split is parallel, and each index of a call or a left
+-- side, with the calls of unstored functions put in, is a literal or a variable, plus or minus literals and clamped to literals or not
+pub record IsCore (a : Algorithm) (s : Schedule) : Type 0 where
+  pub once : SplitsOnce a s
+  pub simple : (n : ℕ) (u : StoredText) → slice_get (stored_functions a s) n ≡ Some u → (fs : List FormulaText) → u.formulas ≡ Some fs → SimpleIndices fs
+
+-- each such schedule is one of those
+abbrev pub CoreSplitsPlainly : Type 0
+CoreSplitsPlainly = (a : Algorithm) (s : Schedule) → IsCore a s → SplitsPlainly a s
 
 -- the group of this number is not the output's, or has each point of it
 abbrev pub HasOutputPoints : Algorithm → Plan → Certificate → ℕ → Group → Type 0
@@ -49,9 +55,8 @@ HasOutputPoints a p c n g = g.function ≡ a.output → HasEachPoint a p c n
 
 -- all that the checker asks of the plan is so but for limits: the head is the algorithm's (no K1); what is told first of the lines of groups by names, limits
 -- and stored expressions is a limit (K14); all that they owe is shown, by the checker's rules and its tests of nests, or is at a line of which a limit is told
--- (no K2, nor K4 to K8), and each line can be told; what is told of the
--- certificate's lines by themselves is a limit, too (no K2, K3, K8, K10), and so is what is told of the pieces' shares (no K9, K10, K11); and the output's
--- group has each point of the output (no K10)
+-- (no K2, nor K4 to K8), and each line can be told; what is told of the certificate's lines by themselves is a limit, too (no K2, K3, K8, K10), and so is what
+-- is told of the pieces' shares (no K9, K10, K11); and the output's group has each point of the output (no K10)
 pub record TellsOnlyLimits (a : Algorithm) (p : Plan) (c : Certificate) : Type 0 where
   pub head : (line : ℕ) → ¬ FailsHead a p line
   pub groups : (f : TextFlaw) → first_of (flaws_of_groups a p c) ≡ Some f → f.code ≡ 14

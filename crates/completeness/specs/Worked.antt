@@ -13,7 +13,7 @@ use Rattle.lower.specs.Regions.{LaidText, laid_functions}
 use Rattle.lower.specs.Bodies.{step_lines}
 use Rattle.completeness.specs.Fitting.{SplitsOnce}
 use Rattle.completeness.specs.OfPlans.{AreFormulasSmall}
-use Rattle.completeness.specs.Told.{SplitsPlainly}
+use Rattle.completeness.specs.Told.{IsCore}
 
 abbrev x : List ℕ
 x = codes "x"
@@ -76,10 +76,10 @@ both_split =
       directives = halved y (codes "yo") (codes "yi") 2 Shift ∷ parallel (codes "yo") ∷ halved x (codes "xo") (codes "xi") 3 Shift ∷ [];
     } ∷ []
 
--- they are such as the law asks: with a let over the grid, and before its store the nest of the second has seven lines: three loops with their ends, and the let of
+-- it is a core schedule, such as the law asks: with a let over the grid, and before its store the nest of the second has seven lines: three loops with their ends, and the let of
 -- a shifted block; those of the first have a guard with its end, and a let behind that, besides four loops, and three in its update
 pub record SplitsFill : Type 0 where
-  pub plain : SplitsPlainly two_functions both_split
+  pub core : IsCore two_functions both_split
   pub head : (r : LaidText) → slice_get (laid_functions two_functions (stored_functions two_functions both_split)) 1 ≡ Some (Some r) → step_lines r.skeleton.head ≡ 1
   pub first : (r : LaidText) → slice_get (laid_functions two_functions (stored_functions two_functions both_split)) 0 ≡ Some (Some r) →
       map (λ w. step_lines w.steps) r.skeleton.nests ≡ 11 ∷ 9 ∷ []

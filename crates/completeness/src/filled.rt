@@ -15,23 +15,23 @@ pub fn blocked_groups_owe_shown()
 {}
 
 /// So it is, whatever such a function fetches, where the region that is needed of it begins within 2^15 of 0 in each dimension, and its reduction ranges end
-/// within 49,152 of 0; or it begins within 2^16 of 0, none of its loops is split with `shift` and no `guard` keeps numbers by a line of its own; or, wherever
-/// it begins, each index of its definitions is a literal or a variable, plus or minus literals and clamped to literals or not: the forms of what its indices
-/// stay within then have no multiples that go farther than 2^39 + 2^37 together, so that the checker's search, which adds a number to each, stays within the
-/// limits of forms wherever `lower` did, and finds of each index no more than the ends by which `lower` told the regions of the functions it calls. A left
-/// index that is no variable is told by reduction variables alone, so that what it stays within is the same over any region: what its updates set over the
-/// first region that was asked for lies in the last one, which grew from it. So it is of an index at its place of a call of the function itself that names
-/// reduction variables alone; where one names more, asking for the function's region came to an end: what its updates set and call, over the loops over that
-/// region, adds nothing to it. Where blocks run past the numbers of 32 bits under `roundup`, what is not shown is owed at the lines of stores with a coordinate
-/// that is not shown to be such a number, of which a limit (K14) is told first, and no store of the group is one that is told to leave its buffer before that.
+/// within 49,152 of 0; or it begins within 2^16 of 0, none of its loops is split with `shift`, no `guard` keeps numbers by a line of its own, and where a left
+/// index is no variable, and an index at its place of a call of the function itself names more than reduction variables, asking for the function's region came
+/// to an end; or, wherever it begins, each index of its definitions is a literal or a variable, plus or minus literals and clamped to literals or not: the
+/// forms of what its indices stay within then have no multiples that go farther than 2^39 + 2^37 together, so that the checker's search, which adds a number to
+/// each, stays within the limits of forms wherever `lower` did, and finds of each index no more than the ends by which `lower` told the regions of the
+/// functions it calls. A left index that is no variable is told by reduction variables alone, so that what it stays within is the same over any region: what
+/// its updates set over the first region that was asked for lies in the last one, which grew from it. An index at its place of a call of the function itself is
+/// shown to lie in the region by `lower`, and so, by the same search, in more numbers behind it. Where blocks run past the numbers of 32 bits under `roundup`,
+/// what is not shown is owed at the lines of stores with a coordinate that is not shown to be such a number, of which a limit (K14) is told first, and no store
+/// of the group is one that is told to leave its buffer before that.
 pub fn near_blocked_groups_owe_shown()
     ensures { NearBlockedGroupsOweShown }
 {}
 
 /// Of a schedule as above, each function whose loops are split once, with whatever tails and in whatever order they stand, no inner loop of a split being
 /// parallel: all that the lines `store` of its group owe is shown, whatever the tests of nests say (no K4, no K5 of them), where each index of its definitions
-/// is simple, as above, no block that nothing keeps within its loop reaches a number past 32 bits, and asking for the function's region came to an end where a
-/// left index is no variable and an index at its place of a call of the function itself names more than reduction variables. A guard that keeps a rest, and
+/// is simple, as above, and no block that nothing keeps within its loop reaches a number past 32 bits. A guard that keeps a rest, and
 /// whose outer loop stands inside of the inner one, is a let: the lesser of the position and the loop's last number; the first number of a block that `shift`
 /// moves is one, too: the lesser of where the block began and of where the last one has room. Both numbers that a let has the lesser of are at least the loop's
 /// first number, and one of them has no symbol: so the checker's search, which takes the one or the other, finds what a let is at least, as what it is at most.
