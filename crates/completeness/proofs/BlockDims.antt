@@ -1,21 +1,16 @@
 -- What belongs to a piece of a dimension that is split once: how many blocks there are, and where parts and regions of loops end.
 use Rattle.std.proofs.Common.{◌≡◌, ℕ, ◌+◌, ◌-◌, ◌*◌, ◌<◌, ◌≤◌, Bool, true, false, ◌||◌, List, [], ◌∷◌, refl, sym, ap, ◌∙◌, inl, inr, arith}
-use Rattle.std.specs.Prelude.{pos, ◌-ℤ◌, ◌==◌, ◌/◌, ◌%◌, if◌then◌else◌}
+use Rattle.std.specs.Prelude.{◌==◌, ◌/◌, ◌%◌, if◌then◌else◌}
 use Rattle.std.proofs.lemmas.Bool.Decides.{nat_tests}
-use Rattle.std.proofs.lemmas.Int.{ints}
 use Rattle.std.proofs.Math.Nat.{div-mul-le_self, lt-div-mul-add}
 use Rattle.meaning.specs.Names.{same_name}
 use Rattle.soundness.specs.Claims.{In}
 use Rattle.soundness.proofs.Refines.{name_refl, name_true}
 use Rattle.sched.specs.declared.schedule.Split.{Split}
-use Rattle.sched.specs.declared.placing.Loop.{Loop}
-use Rattle.sched.specs.declared.numbers.Numbers.{Numbers}
 use Rattle.sched.specs.Numbers.{blocks, numbers_named, last_number}
 use Rattle.sched.proofs.Numbering.{whole_blocks}
 use Rattle.lower.specs.Blocks.{split_end, split_claim_end, end_of, claim_end_of, LayText}
 use Rattle.lower.specs.Blocks.{uncut, joined, part_of}
-use Rattle.lower.proofs.Blocking.{IsSmall, CutFits}
-use Rattle.completeness.specs.Blocked.{makes_line}
 use Rattle.completeness.proofs.Halves.{AreOthers, by_whole}
 use Rattle.completeness.proofs.Lanes.{AreOnce}
 
@@ -135,26 +130,3 @@ module _ (l : LayText) where
 
     pub cut_once : (c : Split) → In c cuts → IsCutOnce cuts c
     cut_once c m = cut_from cuts (λ d k. k) c m m
-
--- ---- ends
-
--- a split whose blocks need no line
-module _ (ls : List Loop) (rs : List Numbers) (c : Split) (free : makes_line ls rs c ≡ false) (fits : CutFits rs c) (small : IsSmall (numbers_named rs c.whole)) (some : 0 <
-    (numbers_named rs c.whole).count) where
-  abbrev own : Numbers
-  own = numbers_named rs c.whole
-
-  abbrev t : ℕ
-  t = top own.count c.factor
-
-  pub outer_low : (numbers_named rs c.outer).low ≡ pos 0
-  outer_low = ap (λ (r : Numbers). r.low) fits.outer
-
-  pub outer_last : last_number (numbers_named rs c.outer) ≡ pos t
-  outer_last = (let are = blocks_top own.count c.factor some fits.some in ap last_number fits.outer ∙ omega (arith, ints, are))
-
-  pub inner_low : (numbers_named rs c.inner).low ≡ pos 0
-  inner_low = ap (λ (r : Numbers). r.low) fits.inner
-
-  pub inner_last : last_number (numbers_named rs c.inner) ≡ pos c.factor -ℤ pos 1
-  inner_last = ap last_number fits.inner ∙ omega (arith, ints)

@@ -368,9 +368,10 @@ module _ (scope : List Binding) (few : (n : ℕ) → weight_at scope n ≤ 73728
   -- their multiples go no farther than this together, where no symbol's numbers go farther than 49,152
   pub span_few : ((n : ℕ) → weight_at scope n ≤ 49152) → (s : Span1) → AllByRecursion (λ f. is_within_limits f ≡ true → weight scope f.terms ≤ 2 ^ 38 + 2 ^ 37 + 2 ^ 36) s.lower
       × AllByRecursion (λ f. is_within_limits f ≡ true → weight scope f.terms ≤ 2 ^ 38 + 2 ^ 37 + 2 ^ 36) s.upper
-  span_few fewer s =
-      (has_all (λ f. is_within_limits f ≡ true → weight scope f.terms ≤ 2 ^ 38 + 2 ^ 37 + 2 ^ 36) s.lower (λ f k limited. each f limited),
-      has_all (λ f. is_within_limits f ≡ true → weight scope f.terms ≤ 2 ^ 38 + 2 ^ 37 + 2 ^ 36) s.upper (λ f k limited. each f limited))
+  span_few fewer s = (
+    has_all (λ f. is_within_limits f ≡ true → weight scope f.terms ≤ 2 ^ 38 + 2 ^ 37 + 2 ^ 36) s.lower (λ f k limited. each f limited),
+    has_all (λ f. is_within_limits f ≡ true → weight scope f.terms ≤ 2 ^ 38 + 2 ^ 37 + 2 ^ 36) s.upper (λ f k limited. each f limited),
+  )
     where
       each : (f : Form) → is_within_limits f ≡ true → weight scope f.terms ≤ 2 ^ 38 + 2 ^ 37 + 2 ^ 36
       each f limited =

@@ -148,6 +148,7 @@ pub mod LeftEnds
 pub mod HeldNear
 pub mod LeftHeld
 pub mod BlockNear
+pub mod BareNests
 pub mod TailNear
 pub mod TailHeld
 pub mod StoreLaw

@@ -1,36 +1,28 @@
 -- Root functions have few numbers in each dimension; turns over these are over some numbers, that are not far from 0, or near where the first one is.
-use Rattle.std.proofs.Common.{◌≡◌, ℕ, zero, suc, ◌+◌, ◌-◌, ◌<◌, ◌≤◌, ◌^◌, Bool, true, false, List, [], ◌∷◌, ◌++◌, length, Option, Some, None, refl, sym, ap, ◌∙◌, subst, inl, inr, arith, length-append}
-use Rattle.std.specs.Prelude.{ℤ, pos, negsuc, ◌+ℤ◌, ◌-ℤ◌, ◌≤ℤ◌, nat_le, replicate, if◌then◌else◌, slice_get}
+use Rattle.std.proofs.Common.{◌≡◌, ℕ, zero, suc, ◌<◌, ◌≤◌, ◌^◌, Bool, true, false, List, [], ◌∷◌, Option, Some, None, refl, sym, ap, ◌∙◌, subst, inl, inr, arith}
+use Rattle.std.specs.Prelude.{ℤ, pos, negsuc, ◌+ℤ◌, ◌-ℤ◌, ◌≤ℤ◌, nat_le, if◌then◌else◌, slice_get}
 use Rattle.std.specs.List.{AllByRecursion}
 use Rattle.std.specs.Int.RustNames.{unsigned_abs}
 use Rattle.std.proofs.lemmas.Bool.Decides.{nat_tests}
 use Rattle.std.proofs.lemmas.Int.{ints}
-use Rattle.lin.specs.Forms.{Form}
 use Rattle.lin.specs.declared.scope.Binding.{Binding}
-use Rattle.lin.specs.declared.scope.Binding.TheVariants.{Loop as LoopBinding}
-use Rattle.lin.specs.declared.span.Span1.{Span1}
-use Rattle.bounds.proofs.ListSound.{all-append}
 use Rattle.meaning.specs.Algorithm.{Algorithm}
-use Rattle.soundness.specs.Obligations.{anything}
 use Rattle.soundness.proofs.Refines.{and_parts}
-use Rattle.headline.proofs.Members.{got}
 use Rattle.sched.specs.declared.placing.Loop.{Loop}
 use Rattle.sched.specs.declared.numbers.Extent.{Extent}
 use Rattle.sched.specs.declared.numbers.Numbers.{Numbers}
 use Rattle.sched.specs.declared.nest.Turning.{Turning}
-use Rattle.sched.specs.Numbers.{numbers_named, or_one}
+use Rattle.sched.specs.Numbers.{numbers_named}
 use Rattle.sched.specs.Standing.{◌>>=◌}
-use Rattle.sched.specs.Skeleton.{span, loop_turning}
+use Rattle.sched.specs.Skeleton.{loop_turning}
 use Rattle.lower.specs.Stored.{FormulaText, StoredText}
 use Rattle.lower.specs.Faults.{is_whole, is_homeless, are_whole}
-use Rattle.lower.specs.Around.{skip_to, bind, bind_steps, grid_symbol, grid_scope}
+use Rattle.lower.specs.Around.{grid_symbol}
 use Rattle.lower.specs.Regions.{LaidText, extent_between, may_have, extent_of, region_of, reach_of, laid_over, laid_by, laid_within, laid_functions, are_within}
 use Rattle.lower.proofs.Laying.{bound, same}
 use Rattle.lower.proofs.Reached.{laid_found}
 use Rattle.completeness.proofs.Standing.{Taken}
-use Rattle.completeness.proofs.BlockTurns.{limited_for}
-use Rattle.completeness.proofs.StoreBounds.{steps_keep}
-use Rattle.completeness.proofs.Boxes.{IsBox, AreBoxes, weight_of, weight_at, both_under}
+use Rattle.completeness.proofs.Boxes.{IsBox, weight_of, both_under}
 
 abbrev Ends : Type 0
 Ends = Taken _ _ are_within
@@ -95,90 +87,6 @@ box_turn t h = of t.low t.last h.0 h.1 h.2
     of : (low last : ℤ) → unsigned_abs low ≤ 73728 → unsigned_abs last ≤ 73728 → low ≤ℤ last → IsTurn (record t { low = low; last = last })
     of low last h k q = record { from = omega (arith, ints, h); to = omega (arith, ints, h); last = omega (arith, k); some = q }
 
-replicated : (P : Binding → Type 0) (n : ℕ) → P (LoopBinding anything) → AllByRecursion P (replicate n (LoopBinding anything))
-replicated P zero h = tt
-replicated P (suc n) h = (h, replicated P n h)
-
-replicate_long : (n : ℕ) → length (replicate n (LoopBinding anything)) ≡ n
-replicate_long zero = refl
-replicate_long (suc n) = ap suc (replicate_long n)
-
-last_of : (xs : List Binding) (b : Binding) (n : ℕ) → length xs ≡ n → slice_get (xs ++ b ∷ []) n ≡ Some b
-last_of [] b zero e = refl
-last_of [] b (suc n) e = absurd (omega (arith, e))
-last_of (x ∷ xs) b zero e = absurd (omega (arith, e))
-last_of (x ∷ xs) b (suc n) e = last_of xs b n (omega (arith, e))
-
-skip_long : (scope : List Binding) (n : ℕ) → length scope ≤ n → length (skip_to scope n) ≡ n
-skip_long scope n le =
-    let both = length-append scope (replicate (n - length scope) (LoopBinding anything)) in
-    let more = replicate_long (n - length scope) in
-    omega (arith, both, more, le)
-
-bound_long : (scope : List Binding) (n : ℕ) (b : Binding) → length scope ≤ n → length (bind scope n b) ≡ n + 1
-bound_long scope n b le = (let both = length-append (skip_to scope n) (b ∷ []) in let skipped = skip_long scope n le in omega (arith, both, skipped))
-
-module _ (limits : ℕ → List Form) where
-  abbrev turn_span : ℕ → Turning → Span1
-  turn_span s t = span t.low t.last (limits s)
-
-  -- what is so of the bindings of a scope, of such of which nothing is known, and of loops, is so of all behind these loops
-  pub all_bound : (P : Binding → Type 0) (n : ℕ) (ts : List Turning) (scope : List Binding) → AllByRecursion P scope → P (LoopBinding anything) →
-      ((j : ℕ) (t : Turning) → slice_get ts j ≡ Some t → P (LoopBinding (turn_span (n + j) t))) → AllByRecursion P (bind_steps scope (limited_for limits n ts))
-  all_bound P n [] scope h none each = h
-  all_bound P n (t ∷ ts) scope h none each =
-      let here : n + 0 ≡ n = omega arith in
-      let first : P (LoopBinding (turn_span n t)) = subst (λ (m : ℕ). P (LoopBinding (turn_span m t))) here (each 0 t refl) in
-      all_bound P (n + 1) ts (bind scope n (LoopBinding (turn_span n t)))
-      (all-append P (skip_to scope n) (LoopBinding (turn_span n t) ∷ [])
-      (all-append P scope (replicate (n - length scope) (LoopBinding anything)) h (replicated P (n - length scope) none)) (first, tt)) none
-      (λ j u e. let next : n + suc j ≡ (n + 1) + j = omega arith in subst (λ (m : ℕ). P (LoopBinding (turn_span m u))) next (each (suc j) u e))
-
-  -- at its symbol each loop stands
-  pub turn_there : (n : ℕ) (ts : List Turning) (scope : List Binding) → length scope ≤ n → (j : ℕ) (t : Turning) → slice_get ts j ≡ Some t →
-      slice_get (bind_steps scope (limited_for limits n ts)) (n + j) ≡ Some (LoopBinding (turn_span (n + j) t))
-  turn_there n [] scope le j t e = absurd (cc e)
-  turn_there n (u ∷ ts) scope le zero t e =
-      let b : Binding = LoopBinding (turn_span n u) in
-      let is : u ≡ t = cc e in
-      let none : n + 0 ≡ n = omega arith in
-      let long = bound_long scope n b le in
-      let kept = steps_keep (bind scope n b) (limited_for limits (n + 1) ts) n (omega (arith, long)) in
-      let here : slice_get (bind scope n b) n ≡ Some b = last_of (skip_to scope n) b n (skip_long scope n le) in
-      ap (slice_get (bind_steps scope (limited_for limits n (u ∷ ts)))) none ∙ kept ∙ here ∙ (λ i. Some (LoopBinding (turn_span (sym none i) (is i))))
-  turn_there n (u ∷ ts) scope le (suc j) t e =
-      let b : Binding = LoopBinding (turn_span n u) in
-      let long = bound_long scope n b le in
-      let next : n + suc j ≡ (n + 1) + j = omega arith in
-      ap (slice_get (bind_steps scope (limited_for limits n (u ∷ ts)))) next ∙ turn_there (n + 1) ts (bind scope n b) (omega (arith, long)) j t e
-      ∙ ap (λ (m : ℕ). Some (LoopBinding (turn_span m t))) (sym next)
-
-  -- a loop's numbers, where no further form tells them
-  pub plain_box : (scope : List Binding) (s : ℕ) (t : Turning) → t.low ≤ℤ t.last → limits s ≡ [] → IsBox scope (LoopBinding (turn_span s t))
-  plain_box scope s t k none = inr (inl (t.low, t.last, ap (λ (fs : List Form). span t.low t.last fs) none, k))
-
-  pub plain_weight : (s : ℕ) (t : Turning) (most : ℕ) → unsigned_abs t.low ≤ most → unsigned_abs t.last ≤ most → limits s ≡ [] → weight_of (Some (LoopBinding (turn_span s t))) ≤ most
-  plain_weight s t most low last none =
-      subst (λ (fs : List Form). weight_of (Some (LoopBinding (span t.low t.last fs))) ≤ most) (sym none) (both_under (unsigned_abs t.low) (unsigned_abs t.last) most low last)
-
-  pub steps_boxes : (n : ℕ) (ts : List Turning) (scope : List Binding) (all : List Binding) → bind_steps scope (limited_for limits n ts) ≡ all → AllByRecursion (IsBox all) scope →
-      ((j : ℕ) (t : Turning) → slice_get ts j ≡ Some t → IsBox all (LoopBinding (turn_span (n + j) t))) → AreBoxes all
-  steps_boxes n ts scope all is h each i b e =
-      got (IsBox all) all i b (subst (AllByRecursion (IsBox all)) is (all_bound (IsBox all) n ts scope h (inl refl) each)) e
-
-  -- no symbol goes farther
-  pub steps_weights : (n : ℕ) (ts : List Turning) (scope : List Binding) (all : List Binding) (most : ℕ) → bind_steps scope (limited_for limits n ts) ≡ all →
-      AllByRecursion (λ b. weight_of (Some b) ≤ most) scope → ((j : ℕ) (t : Turning) → slice_get ts j ≡ Some t → weight_of (Some (LoopBinding (turn_span (n + j) t))) ≤ most) →
-      (i : ℕ) → weight_at all i ≤ most
-  steps_weights n ts scope all most is h each i = of (slice_get all i) refl
-    where
-      bound_all : AllByRecursion (λ b. weight_of (Some b) ≤ most) all
-      bound_all = subst (AllByRecursion (λ b. weight_of (Some b) ≤ most)) is (all_bound (λ b. weight_of (Some b) ≤ most) n ts scope h (omega arith) each)
-
-      of : (o : Option Binding) → slice_get all i ≡ o → weight_of o ≤ most
-      of None e = omega arith
-      of (Some b) e = got (λ b. weight_of (Some b) ≤ most) all i b bound_all e
-
 -- ---- the loops of a function
 
 pub record AreFewNumbers (r : Numbers) : Type 0 where
@@ -203,16 +111,6 @@ turn_box rs o h close = of (numbers_named rs o.name) close h.some h.few
 
 abbrev pub IsCount : ℕ → Type 0
 IsCount n = (0 < n) × (n ≤ 8192)
-
--- what is so of a symbol for each such count is so of all of the grid
-module _ (P : Binding → Type 0) (each : (n : ℕ) → IsCount n → P (grid_symbol n)) where
-  pub or_one_all : (ns : List ℕ) → AllByRecursion IsCount ns → AllByRecursion P (grid_scope (or_one ns))
-  or_one_all [] h = (each 1 (omega arith, omega arith), tt)
-  or_one_all (n ∷ ns) h = (each n h.0, of ns h.1)
-    where
-      of : (ms : List ℕ) → AllByRecursion IsCount ms → AllByRecursion P (grid_scope ms)
-      of [] k = tt
-      of (m ∷ ms) k = (each m k.0, of ms k.1)
 
 pub count_box : (scope : List Binding) (n : ℕ) → IsCount n → IsBox scope (grid_symbol n)
 count_box scope n h = (let some = h.0 in inr (inl (pos 0, pos n -ℤ pos 1, refl, omega (arith, ints, some))))

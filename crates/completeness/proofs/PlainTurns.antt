@@ -4,22 +4,11 @@ use Rattle.std.proofs.Common.{inl, inr, arith}
 use Rattle.std.specs.Prelude.{reverse, slice_get, if◌then◌else◌}
 use Rattle.std.specs.Option.{option_map}
 use Rattle.std.proofs.lemmas.List.{reverse-append}
-use Rattle.lin.specs.Forms.{Form}
 use Rattle.meaning.specs.Names.{same_name, is_among}
 use Rattle.soundness.specs.Claims.{In}
 use Rattle.soundness.proofs.Refines.{name_refl, name_true}
-use Rattle.sched.specs.declared.skeleton.Step.{Step}
-use Rattle.sched.specs.declared.skeleton.Step.TheVariants.{Turns}
 use Rattle.sched.specs.declared.nest.Turning.{Turning}
 use Rattle.sched.specs.Placing.{has_double}
-use Rattle.sched.specs.Skeleton.{span}
-
--- ---- the steps
-
--- loops one after another, each with the further upper forms of its symbol
-abbrev pub limited_for : (ℕ → List Form) → ℕ → List Turning → List Step
-limited_for lim n [] = []
-limited_for lim n (t ∷ ts) = Turns n (span t.low t.last (lim n)) t.kind ∷ limited_for lim (n + 1) ts
 
 -- ---- how often a name stands among others
 

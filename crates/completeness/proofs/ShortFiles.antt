@@ -124,7 +124,8 @@ cert_long (ClaimLine k c) fits slim =
     let two = length-append c.function (32 ∷ (count_text c.definition ++ (32 ∷ region_text c.region))) in
     let three = length-append (count_text c.buffer) (32 ∷ (c.function ++ (32 ∷ (count_text c.definition ++ (32 ∷ region_text c.region))))) in
     let four = length-append (count_text c.line) (32 ∷ (98 ∷ (count_text c.buffer ++ (32 ∷ (c.function ++ (32 ∷ (count_text c.definition ++ (32 ∷ region_text c.region)))))))) in
-    let five = length-append (count_text k) (32 ∷ (count_text c.line ++ (32 ∷ (98 ∷ (count_text c.buffer ++ (32 ∷ (c.function ++ (32 ∷ (count_text c.definition ++ (32 ∷ region_text c.region)))))))))) in
+    let five = length-append (count_text k) (32 ∷ (count_text c.line ++ (32 ∷ (98 ∷ (count_text c.buffer ++ (32 ∷ (c.function ++ (32 ∷ (count_text c.definition ++ (32 ∷ region_text
+    c.region)))))))))) in
     omega (arith, number, line, buffer, name, definition, region, one, two, three, four, five)
   where
     small : (n : ℕ) → nat_lt n 4096 ≡ true → nat_lt n 9223372036854775808 ≡ true

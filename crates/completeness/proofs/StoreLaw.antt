@@ -1,6 +1,6 @@
 -- Of functions whose loops are split once, with any tail, in any order, all that their stores owe is shown, and all that their lines do, where their indices are
 -- simple.
-use Rattle.std.proofs.Common.{◌≡◌, true, sym, subst, inl, inr}
+use Rattle.std.proofs.Common.{◌≡◌, true, sym, subst, inr}
 use Rattle.plan.specs.Plan.{Group}
 use Rattle.plan.specs.View.{group_of, plan_of}
 use Rattle.plan.specs.Lines.{body_line}
@@ -19,7 +19,6 @@ use Rattle.completeness.proofs.StoreNames.{shown as names_shown}
 use Rattle.completeness.proofs.StoreBounds.{Shows}
 use Rattle.completeness.proofs.TailHeld.{tailed_held}
 use Rattle.completeness.proofs.BlockStores.{group_at, StoresAreShown, blocked_either}
-use Rattle.completeness.proofs.BlockNear.{blocked_held}
 
 pub store_lines_owed : StoreLinesOweShown
 store_lines_owed a s l well legal small regions groups all free told grids few n g at u stands split_once fs defined r laid simple early =
@@ -28,7 +27,7 @@ store_lines_owed a s l well legal small regions groups all free told grids few n
     let o = outline_of p c n g in
     let rules = rules_of a p c n in
     let x = from_map group_of l.plan.groups.items n g at in
-    let h = tailed_held a s l well legal small (regions all).0 all groups n x.0 x.1 u stands split_once.once split_once.inners fs defined r laid (inl simple) in
+    let h = tailed_held a s l well legal small (regions all).0 all groups n x.0 x.1 u stands split_once.once split_once.inners fs defined r laid (inr simple) in
     let at_group = group_at a s l well legal small (regions all).0 all groups told free grids few n x.0 x.1 u stands split_once.once split_once.inners fs defined r laid
     h.1 h.2 h.0 in
     let shown = subst (λ (y : Group). StoresAreShown a s l well legal small (regions all).0 all groups told free grids few n y) (sym x.2) (at_group.all_shown early) in
@@ -41,14 +40,5 @@ store_lines_owed a s l well legal small regions groups all free told grids few n
 pub near_blocked_owed : NearBlockedGroupsOweShown
 near_blocked_owed a s l well legal small regions groups all free told grids few near n g at u stands split_once fs defined r laid close =
     let x = from_map group_of l.plan.groups.items n g at in
-    elim close [
-      | inl (inl region) ↦
-          (let h = tailed_held a s l well legal small (regions all).0 all groups n x.0 x.1 u stands split_once.once split_once.inners fs defined r laid (inr region) in
-          blocked_either a s l well legal small regions groups all free told grids few near n g at u stands split_once fs defined r laid h.1 h.2 h.0)
-      | inl (inr kept) ↦
-          (let h = blocked_held a s l well legal small (regions all).0 all groups n x.0 x.1 u stands kept.0 fs defined r laid kept.2 kept.1 in
-          blocked_either a s l well legal small regions groups all free told grids few near n g at u stands split_once fs defined r laid h.1 h.2 h.0)
-      | inr simple ↦
-          (let h = tailed_held a s l well legal small (regions all).0 all groups n x.0 x.1 u stands split_once.once split_once.inners fs defined r laid (inl simple) in
-          blocked_either a s l well legal small regions groups all free told grids few near n g at u stands split_once fs defined r laid h.1 h.2 h.0)
-    ]
+    let h = tailed_held a s l well legal small (regions all).0 all groups n x.0 x.1 u stands split_once.once split_once.inners fs defined r laid close in
+    blocked_either a s l well legal small regions groups all free told grids few near n g at u stands split_once fs defined r laid h.1 h.2 h.0

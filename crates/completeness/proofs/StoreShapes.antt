@@ -25,9 +25,8 @@ use Rattle.meaning.specs.Names.{same_name}
 use Rattle.soundness.specs.Claims.{In}
 use Rattle.soundness.specs.Origins.{Outline}
 use Rattle.soundness.specs.Given.{outline_of}
-use Rattle.soundness.specs.Obligations.{Rules, exactly}
+use Rattle.soundness.specs.Obligations.{exactly}
 use Rattle.soundness.proofs.Refines.{name_refl, name_true}
-use Rattle.rules.specs.Bounding.Rules.{rules_of}
 use Rattle.headline.proofs.Regions.{at_in}
 use Rattle.sched.specs.Schedule.{Schedule}
 use Rattle.sched.specs.Legal.{IsLegal}
@@ -75,7 +74,6 @@ use Rattle.completeness.proofs.PureNests.{all_in, loop_name, hits_named, all_sli
 use Rattle.completeness.proofs.UpdateTurns.{hits_fewer}
 use Rattle.completeness.proofs.GridTurns.{grid_none, OverGrid, NotOverGrid, either_name}
 use Rattle.completeness.proofs.Searched.{one_of}
-use Rattle.completeness.proofs.GridCounts.{IsShort, grid_few}
 use Rattle.completeness.proofs.BlockFacts.{halves_new, outers_apart, wholes_are, end_leaf, parallel_found, serial_none, inners_serial}
 use Rattle.completeness.proofs.BlockNames.{LeafOf}
 use Rattle.completeness.proofs.BlockDims.{top, part_uncut, end_uncut, claim_uncut, cut_once}
@@ -156,9 +154,6 @@ module _ (a : Algorithm) (sch : Schedule) (l : Lowered) (well : IsAlgorithm a) (
 
     abbrev O : Outline
     O = outline_of plan cert n (group_of p)
-
-    abbrev R : Rules
-    R = rules_of a plan cert n
 
     abbrev places : List Places
     places = own_places (dimensions_of g h.extents k)
@@ -290,9 +285,6 @@ module _ (a : Algorithm) (sch : Schedule) (l : Lowered) (well : IsAlgorithm a) (
         ap (λ (s : Statement). dimensions_in (allocated s 0)) h.body.with.is
         ∙ ap dimensions_in (lets_allot k.head (Then (Alloc 0 g.subject.name places) (block (with_fetches h.body.fetches (h.body.nests ++ Publish (last_claim first h.body.fetches k) ∷ [])))) 0 lets)
         ∙ places_long lay cuts xs
-
-    pub names_apart : (y : List ℕ) → hits itself y xs ≤ 1
-    names_apart y = hits_once xs y laid.variables
 
     -- ---- what names stand for over the grid
 
@@ -489,12 +481,6 @@ module _ (a : Algorithm) (sch : Schedule) (l : Lowered) (well : IsAlgorithm a) (
                         × (0 ≡ p.outer_at + 1) × (x.line ≡ PairLine form (last_number (numbers_named rs l.split.whole)))) → LetsFirst (λ i pick fs. ⊥) (entry_steps u.next (x ∷ es))
                     kind (inl b) = (let place = b.behind in absurd (omega (arith, place)))
                     kind (inr q) = (let place = q.3 in absurd (omega (arith, place)))
-
-    abbrev pub sized : (c : Split) → In c cuts → IsSmall (num c.whole) × (0 < (num c.whole).count)
-    sized c m = fit_of c.whole (wholes c m)
-
-    pub shorts : AllByRecursion IsShort k.grid
-    shorts = grid_few g h.extents k laid
 
     is_over : (x : List ℕ) (f : Form) → form_named grid x ≡ Some f → is_parallel_named lay x ≡ true
     is_over x f e = parallel_named ls x ∙ grid_named rs x 0 (parallel_loops ls) f e

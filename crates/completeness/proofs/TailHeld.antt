@@ -49,11 +49,15 @@ use Rattle.lower.proofs.Laying.{same}
 use Rattle.lower.proofs.Owners as owners
 use Rattle.completeness.specs.Laws.{AreSplitOnce}
 use Rattle.completeness.specs.Parted.{KeepsInner}
-use Rattle.completeness.specs.Stores.{IsCloseRegion, AreHeld}
+use Rattle.completeness.specs.Stores.{IsCloseRegion, IsNearRegion, AreHeld}
+use Rattle.completeness.specs.Blocked.{makes_line}
+use Rattle.completeness.specs.Filled.{IsNearOrSimple}
+use Rattle.completeness.proofs.BareNests.{bare_shift, rest_tailed, in_order}
+use Rattle.completeness.proofs.BlockOrder.{bodies_ordered}
 use Rattle.completeness.specs.Simple.{has_simple_indices, SimpleIndices}
-use Rattle.completeness.specs.Placed.{AreLeftsHeld, AreOwnHeld}
+use Rattle.completeness.specs.Placed.{ArePlaced, AreLeftsHeld, AreOwnHeld}
 use Rattle.completeness.proofs.RangeLoops.{AreNewNames}
-use Rattle.completeness.proofs.LeftHeld.{lefts_held, owns_few, AreCallsFew}
+use Rattle.completeness.proofs.LeftHeld.{lefts_held, owns_held, owns_few, AreCallsFew}
 use Rattle.completeness.proofs.Owned.{some_same, same_extents, same_skeleton}
 use Rattle.completeness.proofs.Served.{roots, made_at}
 use Rattle.completeness.proofs.NamedClaims.{alone_body}
@@ -61,9 +65,9 @@ use Rattle.completeness.proofs.Halves.{AreOthers}
 use Rattle.completeness.proofs.Lanes.{AreOnce}
 use Rattle.completeness.proofs.PureNests.{all_in, all_from, all_get}
 use Rattle.completeness.proofs.UpdateTurns.{all_mapped, all_filtered}
-use Rattle.completeness.proofs.Boxes.{AreBoxes, weight_at, span_light}
+use Rattle.completeness.proofs.Boxes.{AreBoxes, ArePlain, weight_at, span_light}
 use Rattle.completeness.proofs.FirstNumbers.{firsts, number_at, index_near}
-use Rattle.completeness.proofs.NearBoxes.{IsFew, IsBoxTurn, IsTurn as IsSizedTurn, box_turn, regions_few, AreFewNumbers, turn_few, IsCount}
+use Rattle.completeness.proofs.NearBoxes.{turn_box, IsFew, IsBoxTurn, IsTurn as IsSizedTurn, box_turn, regions_few, AreFewNumbers, turn_few, IsCount}
 use Rattle.completeness.proofs.RangedBoxes.{turns_all}
 use Rattle.completeness.proofs.HeldNear.{IsFormed, IsIndexed, held_near, ranges_box}
 use Rattle.completeness.proofs.BlockDims.{top, top_low, blocks_top}
@@ -75,12 +79,12 @@ use Rattle.completeness.proofs.Standing.{Rises, names_own}
 use Rattle.completeness.proofs.PlainNests.{grid_place}
 use Rattle.completeness.proofs.StoreBounds.{steps_keep}
 use Rattle.completeness.proofs.StepsThere.{let_tells, step_there, steps_long, entries_rise, entry_tells, entry_told}
-use Rattle.completeness.proofs.TailSteps.{is_loop}
-use Rattle.completeness.proofs.TailTurns.{Entry, entry_steps, is_shifted, Right, IsTurn, IsLet, IsEntry}
+use Rattle.completeness.proofs.TailSteps.{Pair, is_loop}
+use Rattle.completeness.proofs.TailTurns.{Entry, entry_steps, is_shifted, keeps_rest, Right, IsTurn, IsBlock, IsPair, IsLet, IsEntry}
 use Rattle.completeness.proofs.TailSkeletons.{IsTailNest, AreTails}
 use Rattle.completeness.proofs.StoreShapes as shapes_of
 use Rattle.completeness.proofs.BlockNear.{few_calls_light, IsLightIf, variables_so, ranges_so, kept_light, lefts_light, simple_light, simple_few, few_calls_few}
-use Rattle.completeness.proofs.TailNear.{all_close, IsGood, store_boxes, right_good}
+use Rattle.completeness.proofs.TailNear.{all_plain, all_near, all_close, IsGood, store_boxes, right_good}
 use Rattle.completeness.proofs.StoreTails.{lets_count, room_for}
 use Rattle.completeness.proofs.ShortShifts.{long_shifts}
 
@@ -266,6 +270,31 @@ module _ (a : Algorithm) (sch : Schedule) (l : Lowered) (well : IsAlgorithm a) (
         leaf_close y (inr (c, m, inl e)) = subst Close (sym e) (subst (λ (z : Numbers). unsigned_abs z.low ≤ 32768) (sym (fits c m).outer) (omega arith))
         leaf_close y (inr (c, m, inr e)) = subst Close (sym e) (subst (λ (z : Numbers). unsigned_abs z.low ≤ 32768) (sym (fits c m).inner) (omega arith))
 
+    -- the same, farther, where no split makes a line of its own
+    abbrev IsFilled : Type 0
+    IsFilled = AllByRecursion (λ c. makes_line ls rs c ≡ false) cuts
+
+    near_loops : IsNearRegion h.extents → AllByRecursion (λ o. IsBoxTurn (loop_turning rs o)) ls
+    near_loops near = all_from (λ o. IsBoxTurn (loop_turning rs o)) ls (λ o m. turn_box rs o (loop_few o m) (leaf_near o.name (loop_leaf o m)))
+      where
+        wholes_near : (ys : List (List ℕ)) (es : List Extent) → NumbersAre rs ys es → IsNearRegion es → AllByRecursion (λ y. unsigned_abs (numbers_named rs y).low ≤ 65536) ys
+        wholes_near [] es q r = tt
+        wholes_near (y ∷ ys) [] q r = absurd q
+        wholes_near (y ∷ ys) (e ∷ es) q r = (subst (λ (z : Numbers). unsigned_abs z.low ≤ 65536) (sym q.0) r.0, wholes_near ys es q.1 r.1)
+
+        leaf_near : (y : List ℕ) → LeafName y → unsigned_abs (numbers_named rs y).low ≤ 65536
+        leaf_near y (inl m) = all_in (λ y. unsigned_abs (numbers_named rs y).low ≤ 65536) xs y (wholes_near xs h.extents (owners.numbers g h.extents k laid) near) m
+        leaf_near y (inr (c, m, inl e)) =
+            subst (λ (z : List ℕ). unsigned_abs (numbers_named rs z).low ≤ 65536) (sym e) (subst (λ (z : Numbers). unsigned_abs z.low ≤ 65536) (sym (fits c m).outer) (omega arith))
+        leaf_near y (inr (c, m, inr e)) =
+            subst (λ (z : List ℕ). unsigned_abs (numbers_named rs z).low ≤ 65536) (sym e) (subst (λ (z : Numbers). unsigned_abs z.low ≤ 65536) (sym (fits c m).inner) (omega arith))
+
+    no_shift : IsFilled → (c : Split) → In c cuts → is_shifted c ≡ true → ⊥
+    no_shift filled c m e = bare_shift ls rs c (all_in (λ c. makes_line ls rs c ≡ false) cuts c filled m) e
+
+    no_head : IsFilled → (j : ℕ) (step : Step) → slice_get k.head j ≡ Some step → ⊥
+    no_head filled j step e = (let r = shape_here.heads j step e in no_shift filled r.split r.among r.shifted)
+
     -- ---- a nest
 
     module _ (d : ℕ) (w : NestText) (stands : slice_get k.nests d ≡ Some w) where
@@ -445,10 +474,50 @@ module _ (a : Algorithm) (sch : Schedule) (l : Lowered) (well : IsAlgorithm a) (
                 let t = turn_of j e at_e loop in
                 all_get IsCloseTurn ts t.place e.turning (turns_all IsCloseTurn rs ls (close_loops close.0) q.body ranges_here) t.there
 
+        -- where no split makes a line of its own there is no let
+        no_let : IsFilled → (j : ℕ) (e : Entry) → slice_get es j ≡ Some e → IsLet cuts others once rs over_grid base k.head q.next es ts j e → ⊥
+        no_let filled j e at_e let_here = of let_here.kind
+          where
+            c : Split
+            c = let_here.split
+
+            of : IsBlock cuts others once rs over_grid base k.head q.next es ts j e c
+                ⊎ ((keeps_rest rs c ≡ true) × (form : Form) × (p : IsPair cuts others once rs over_grid base k.head q.next es c form) × (j ≡ p.outer_at + 1)
+                × (e.line ≡ Pair form (last_number (numbers_named rs c.whole)))) → ⊥
+            of (inl b) = no_shift filled c let_here.among b.shifted
+            of (inr (rest, form, two, place, line_is)) =
+                let inner = turn_of two.inner_at two.inner two.inner_there two.inner_loop in
+                let outer = turn_of two.outer_at two.outer two.outer_there two.outer_loop in
+                let named = shapes_of.named_here a sch l well legal small kept all groups n first line g p claims needs at there h lined placed alone_here laid split_alone keeps d q.body q.at in
+                let ordered = bodies_ordered a sch legal n g at h.extents k laid (λ c m. all_in (λ c. makes_line ls rs c ≡ false) cuts c filled m) fs d q.body q.at in
+                let less = ordered.order c let_here.among (rest_tailed rs c rest) inner.place outer.place two.inner.turning two.outer.turning inner.there two.inner_name outer.there two.outer_name in
+                let more = in_order cuts others once rs over_grid base ts es q.woven named.unique named.apart two.inner_at two.outer_at two.inner two.outer two.inner_there two.outer_there two.before
+                inner.place outer.place inner.there outer.there in
+                omega (arith, less, more)
+
+        plain_so : IsFilled → ArePlain scope
+        plain_so filled =
+            all_plain cuts others once rs over_grid base xs fits wholes fit_of whole_few roomy inners k.head q.next es ts q.each unique_at off_at numbers_at sized_at shape_here.heads behind k.grid
+            counts_here scope scope_is grid_there grid_leaf head_there entry_there (no_let filled) (no_head filled)
+
+        near_so : IsFilled → IsNearRegion h.extents → (i : ℕ) → weight_at scope i ≤ 73728
+        near_so filled near =
+            all_near cuts others once rs over_grid base xs fits wholes fit_of whole_few roomy inners k.head q.next es ts q.each unique_at off_at numbers_at sized_at shape_here.heads behind k.grid
+            counts_here scope scope_is grid_there grid_leaf head_there entry_there (no_let filled) (no_head filled) turns_near
+          where
+            turns_near : (j : ℕ) (e : Entry) → slice_get es j ≡ Some e → is_loop e.line ≡ true → (unsigned_abs e.turning.low ≤ 73728) × (unsigned_abs e.turning.last ≤ 73728)
+            turns_near j e at_e loop =
+                let t = turn_of j e at_e loop in
+                let z = all_get IsBoxTurn ts t.place e.turning (turns_all IsBoxTurn rs ls (near_loops near) q.body ranges) t.there in
+                (z.0, z.1)
+
     simple_at : SimpleIndices fs → (d : ℕ) (f : FormulaText) → slice_get fs d ≡ Some f → has_simple_indices f ≡ true
     simple_at simple d f e = all_get (λ (y : FormulaText). has_simple_indices y ≡ true) fs d f simple e
 
-    boxed_here : SimpleIndices fs ⊎ IsCloseRegion g h.extents → (d : ℕ) (w : NestText) → slice_get k.nests d ≡ Some w →
+    abbrev IsLightly : Type 0
+    IsLightly = SimpleIndices fs ⊎ (IsCloseRegion g h.extents ⊎ (IsFilled × IsNearRegion h.extents))
+
+    boxed_here : IsLightly → (d : ℕ) (w : NestText) → slice_get k.nests d ≡ Some w →
         ((b : BodyText) → slice_get bs d ≡ Some b → AllByRecursion IsBoxTurn b.ranges) → IsIndexed a g fs k d w
     boxed_here (inl simple) d w stands ranges =
         let v = shape_here.nests d w stands in
@@ -460,7 +529,7 @@ module _ (a : Algorithm) (sch : Schedule) (l : Lowered) (well : IsAlgorithm a) (
           light = λ f e. simple_light a g (head_scope k) w f d (simple_at simple d f e) light;
           lefts = λ f e j t at_j s found. kept_light (bind_steps (head_scope k) w.steps) s (lefts_light a g (head_scope k) w f d (simple_at simple d f e) light j t at_j s found);
         }
-    boxed_here (inr close) d w stands ranges =
+    boxed_here (inr (inl close)) d w stands ranges =
         let v = shape_here.nests d w stands in
         let here = ranges v.body v.at in
         let few_so = weights_here d w stands here close in
@@ -470,6 +539,17 @@ module _ (a : Algorithm) (sch : Schedule) (l : Lowered) (well : IsAlgorithm a) (
           indices = all_index d w stands here;
           light = λ f e. few_calls_light a g (head_scope k) w f d more (inr few_so);
           lefts = λ f e j t at_j s found. span_light (bind_steps (head_scope k) w.steps) more (inr few_so) s;
+        }
+    boxed_here (inr (inr near)) d w stands ranges =
+        let v = shape_here.nests d w stands in
+        let here = ranges v.body v.at in
+        let few_so = near_so d w stands here near.0 near.1 in
+        let plain = plain_so d w stands here near.0 in
+        record {
+          boxes = boxes_here d w stands here;
+          indices = all_index d w stands here;
+          light = λ f e. few_calls_light a g (head_scope k) w f d few_so (inl plain);
+          lefts = λ f e j t at_j s found. span_light (bind_steps (head_scope k) w.steps) few_so (inl plain) s;
         }
 
     -- the forms of what indices of calls stay within go not far
@@ -501,10 +581,10 @@ module _ (a : Algorithm) (sch : Schedule) (l : Lowered) (well : IsAlgorithm a) (
             shapes_of.reduction_apart a sch l well legal small kept all groups n first line g p claims needs at there h lined placed alone_here laid split_alone keeps d v.body v.at x y m leaf e
 
     -- so what is fetched holds the calls
-    held_here : SimpleIndices fs ⊎ IsCloseRegion g h.extents → (m : LaidText) → slice_get (laid_functions a gs) n ≡ Some (Some m) → m.skeleton ≡ k → skeleton_of g fs m.region ≡ Some
-        m.skeleton → g.formulas ≡ Some fs →
+    held_here : IsLightly → (m : LaidText) → slice_get (laid_functions a gs) n ≡ Some (Some m) → m.skeleton ≡ k → skeleton_of g fs m.region ≡ Some
+        m.skeleton → g.formulas ≡ Some fs → (SimpleIndices fs ⊎ IsCloseRegion g h.extents) ⊎ ArePlaced a g fs m →
         AreHeld a gs n g fs m.skeleton × AreLeftsHeld a g fs m.region m.skeleton × AreOwnHeld a g fs m.region m.skeleton
-    held_here simple m found_there same_skeleton_so over defined =
+    held_here simple m found_there same_skeleton_so over defined own_by =
         let forms : (d : ℕ) (w : NestText) → slice_get m.skeleton.nests d ≡ Some w → IsFormed xs bs d w =
         λ d w stands. formed_here d w (ap (λ (y : SkeletonText). slice_get y.nests d) (sym same_skeleton_so) ∙ stands) in
         let boxes : (d : ℕ) (w : NestText) → slice_get m.skeleton.nests d ≡ Some w → ((b : BodyText) → slice_get bs d ≡ Some b → AllByRecursion IsBoxTurn b.ranges) →
@@ -515,18 +595,22 @@ module _ (a : Algorithm) (sch : Schedule) (l : Lowered) (well : IsAlgorithm a) (
         λ d w stands. new_names d w (ap (λ (y : SkeletonText). slice_get y.nests d) (sym same_skeleton_so) ∙ stands) in (
           held_near a sch l well legal small kept all groups n g at fs defined m found_there over forms boxes,
           lefts_held a sch l well legal small kept all groups n g at fs defined m found_there over forms boxes others once names,
-          owns_few a sch l well legal small kept all groups n g at fs defined m found_there over forms boxes others once names
-              (λ d f w r at_f at_w stands_r.
-              let here : slice_get k.nests d ≡ Some w = ap (λ (y : SkeletonText). slice_get y.nests d) (sym same_skeleton_so) ∙ at_w in
-              calls_few simple d f w at_f here
-                  (ranges_box a sch l well legal small kept all groups n g at fs defined m found_there over forms boxes d f w at_f at_w) r
-                  (ap (λ (y : SkeletonText). around a g (head_scope y) w f d) (sym same_skeleton_so) ∙ stands_r)),
+          elim own_by [
+            | inl light ↦
+                owns_few a sch l well legal small kept all groups n g at fs defined m found_there over forms boxes others once names
+                (λ d f w r at_f at_w stands_r.
+                let here : slice_get k.nests d ≡ Some w = ap (λ (y : SkeletonText). slice_get y.nests d) (sym same_skeleton_so) ∙ at_w in
+                calls_few light d f w at_f here
+                (ranges_box a sch l well legal small kept all groups n g at fs defined m found_there over forms boxes d f w at_f at_w) r
+                (ap (λ (y : SkeletonText). around a g (head_scope y) w f d) (sym same_skeleton_so) ∙ stands_r))
+            | inr settled ↦ owns_held a sch l well legal small kept all groups n g at fs defined m found_there over forms boxes others once names settled
+          ],
         )
 
   -- of a group of the plan
   pub tailed_held : (n : ℕ) (q : CodeGroup) → slice_get l.plan.groups.items n ≡ Some q → (u : StoredText) → slice_get gs n ≡ Some u → AreSplitOnce u.placed.cuts → KeepsInner u.placed.loops
       u.placed.cuts → (fs : List FormulaText) →
-      u.formulas ≡ Some fs → (m : LaidText) → slice_get (laid_functions a gs) n ≡ Some (Some m) → SimpleIndices fs ⊎ IsCloseRegion u m.region →
+      u.formulas ≡ Some fs → (m : LaidText) → slice_get (laid_functions a gs) n ≡ Some (Some m) → IsNearOrSimple a sch n u fs m →
       AreHeld a gs n u fs m.skeleton × AreLeftsHeld a u fs m.region m.skeleton × AreOwnHeld a u fs m.region m.skeleton
   tailed_held n q theirs u at once_only inners_only fs defined m found_there simple =
       let me = made_at a sch l well legal small kept all groups n q theirs in
@@ -552,17 +636,34 @@ module _ (a : Algorithm) (sch : Schedule) (l : Lowered) (well : IsAlgorithm a) (
       let roomy : AllByRecursion (λ c. is_too_short (loop_numbers me.stored.subject.variables me.stored.placed.cuts body.extents) c ≡ false) me.stored.placed.cuts =
       subst (λ (es : List Extent). AllByRecursion (λ c. is_too_short (loop_numbers me.stored.subject.variables me.stored.placed.cuts es) c ≡ false) me.stored.placed.cuts) extents
       (long_shifts a sch kept n me.stored me.laid me.is me.found) in
-      let simple_here : SimpleIndices body.formulas ⊎ IsCloseRegion me.stored body.extents =
-      subst (λ (es : List Extent). SimpleIndices body.formulas ⊎ IsCloseRegion me.stored es) extents
-      (subst (λ (y : LaidText). SimpleIndices body.formulas ⊎ IsCloseRegion me.stored y.region) (sym region)
-      (subst (λ (vs : List FormulaText). SimpleIndices vs ⊎ IsCloseRegion me.stored m.region) (sym formulas)
-      (subst (λ (y : StoredText). SimpleIndices fs ⊎ IsCloseRegion y m.region) (sym stored) simple))) in
+      let near_here : IsNearOrSimple a sch n me.stored body.formulas me.laid =
+      subst (λ (y : LaidText). IsNearOrSimple a sch n me.stored body.formulas y) (sym region)
+      (subst (λ (vs : List FormulaText). IsNearOrSimple a sch n me.stored vs m) (sym formulas) (subst (λ (y : StoredText). IsNearOrSimple a sch n y fs m) (sym stored) simple)) in
+      let own_by : (SimpleIndices body.formulas ⊎ IsCloseRegion me.stored body.extents) ⊎ ArePlaced a me.stored body.formulas me.laid =
+      elim near_here [
+        | inl (inl close) ↦ inl (inr (subst (IsCloseRegion me.stored) extents close))
+        | inl (inr kept) ↦ inr kept.2
+        | inr is ↦ inl (inl is)
+      ] in
+      let simple_here : SimpleIndices body.formulas ⊎ (IsCloseRegion me.stored body.extents
+      ⊎ (AllByRecursion (λ c. makes_line me.stored.placed.loops (loop_numbers me.stored.subject.variables me.stored.placed.cuts body.extents) c ≡ false) me.stored.placed.cuts
+      × IsNearRegion body.extents)) =
+      elim near_here [
+        | inl (inl close) ↦ inr (inl (subst (IsCloseRegion me.stored) extents close))
+        | inl (inr kept) ↦
+            inr (inr (
+              subst (λ (es : List Extent). AllByRecursion (λ c. makes_line me.stored.placed.loops (loop_numbers me.stored.subject.variables me.stored.placed.cuts es) c ≡ false)
+                  me.stored.placed.cuts) extents (kept.0.filled me.laid me.found),
+              subst IsNearRegion extents kept.1,
+            ))
+        | inr is ↦ inl is
+      ] in
       let few_here : AllByRecursion IsFew body.extents = subst (AllByRecursion IsFew) extents (regions_few a gs n me.laid all me.found) in
       let over : skeleton_of me.stored body.formulas me.laid.region ≡ Some me.laid.skeleton =
       subst (λ (vs : List FormulaText). skeleton_of me.stored vs me.laid.region ≡ Some me.laid.skeleton)
       (same me.formulas body.formulas (sym me.defined ∙ body.defined)) me.over in
       let here = held_here n b.first_claim b.line me.stored q b.claims b.needs me.is theirs body begins b.numbered own laid once_here inners_here roomy few_here simple_here
-      me.laid me.found skeleton over body.defined in
+      me.laid me.found skeleton over body.defined own_by in
       let held_there : AreHeld a gs n u fs m.skeleton =
       subst (λ (y : LaidText). AreHeld a gs n u fs y.skeleton) region
       (subst (λ (vs : List FormulaText). AreHeld a gs n u vs me.laid.skeleton) formulas (subst (λ (y : StoredText). AreHeld a gs n y body.formulas me.laid.skeleton) stored here.0)) in

@@ -1,13 +1,13 @@
 -- Around the stores of functions whose loops are split once, with any tail, in any order, each symbol is of a loop over numbers or a let of such loops; at the first numbers of all of them
 -- each coordinate is
 -- a number of 32 bits, and none is heavy: over the entries of a nest, by what is known of their symbols.
-use Rattle.std.proofs.Common.{◌≡◌, ℕ, zero, suc, ◌+◌, ◌-◌, ◌*◌, ◌<◌, ◌≤◌, ◌^◌, Bool, true, false, List, [], ◌∷◌, length, Option, Some, None, refl, sym, ap, ◌∙◌, subst, inl, inr, ◌⊎◌, arith}
+use Rattle.std.proofs.Common.{◌≡◌, ℕ, suc, ◌+◌, ◌-◌, ◌*◌, ◌<◌, ◌≤◌, ◌^◌, Bool, true, false, List, [], ◌∷◌, length, Option, Some, None, refl, sym, ap, ◌∙◌, subst, inl, inr, ◌⊎◌, arith}
 use Rattle.std.specs.Prelude.{ℤ, pos, negsuc, ◌+ℤ◌, ◌-ℤ◌, ◌*ℤ◌, ◌≤ℤ◌, ◌==◌, nat_lt, if◌then◌else◌, slice_get}
 use Rattle.std.specs.List.{AllByRecursion}
 use Rattle.std.specs.Int.RustNames.{unsigned_abs}
 use Rattle.std.proofs.lemmas.Bool.Decides.{nat_tests}
 use Rattle.std.proofs.lemmas.Int.{ints}
-use Rattle.std.proofs.Math.Nat.{mul-suc, mul-le-mul_right}
+use Rattle.std.proofs.Math.Nat.{mul-le-mul_right}
 use Rattle.tree.specs.Names.{IsIndex}
 use Rattle.lin.specs.Forms.{Form, number, combined, without, value_of as form_value}
 use Rattle.lin.specs.declared.form.Multiple.{Multiple}
@@ -36,7 +36,7 @@ use Rattle.completeness.proofs.Lanes.{AreOnce}
 use Rattle.completeness.proofs.BlockDims.{top, top_low}
 use Rattle.completeness.proofs.BlockSums.{pair, pair_is, multiple, two_of, start_is}
 use Rattle.completeness.proofs.BlockNear.{pair_either, pair_value, IsLightList}
-use Rattle.completeness.proofs.Boxes.{IsCapped, IsLet, IsBox, AreBoxes, weight_of, weight_at, weight, both_under}
+use Rattle.completeness.proofs.Boxes.{IsPlain, ArePlain, IsCapped, IsLet, IsBox, AreBoxes, weight_of, weight_at, weight, both_under}
 use Rattle.completeness.proofs.FirstNumbers.{first_of, firsts}
 use Rattle.completeness.proofs.GuardSums.{left_is}
 use Rattle.completeness.proofs.NearBoxes.{IsTurn as IsSizedTurn, AreFewNumbers, IsCount, count_box, count_weight}
@@ -44,7 +44,8 @@ use Rattle.completeness.proofs.Searched.{one_of}
 use Rattle.completeness.proofs.StepsThere.{Tells, all_told, line_told, entry_told, entries_told}
 use Rattle.std.proofs.lemmas.Option.{slice_get_within}
 use Rattle.completeness.proofs.TailSteps.{Line, Loop as LoopLine, Block, Pair, is_loop}
-use Rattle.completeness.proofs.TailTurns.{Entry, entry_steps, is_shifted, keeps_rest, not_shifted, Leaf, LeafBefore, LetAt, IsBegun, IsLimit, IsPair, Kept, Right, IsBlock, IsEntry}
+use Rattle.completeness.proofs.TailTurns.{IsLet as IsLetEntry, Entry, entry_steps, is_shifted, keeps_rest, not_shifted, Leaf, LeafBefore, LetAt, IsBegun, IsLimit, IsPair, Kept, Right}
+use Rattle.completeness.proofs.TailTurns.{IsBlock, IsEntry}
 use Rattle.completeness.proofs.TailSkeletons.{IsHead}
 use Rattle.completeness.proofs.TailReady.{outer_low, outer_last, inner_low, inner_last}
 
@@ -75,13 +76,6 @@ module _ (cuts : List Split) (others : AreOthers cuts) (once : AreOnce cuts) (rs
     times_low : tops * c.factor ≤ 8191
     times_low = (let whole = whole_few c.whole (wholes c m) in let most = whole.few in let some = whole.some in let less = top_low (count c.whole) c.factor some (fits c m).some in omega
         (arith, most, some, less))
-
-    tops_low : tops + 1 ≤ 8192
-    tops_low = (let all = times_low in let less = at_most_times tops c.factor (fits c m).some in omega (arith, all, less))
-      where
-        at_most_times : (b d : ℕ) → 0 < d → b ≤ b * d
-        at_most_times b zero some = absurd (omega (arith, some))
-        at_most_times b (suc d) some = (let is = mul-suc b d in omega (arith, is))
 
   module _ (head : List Step) (n : ℕ) (es : List Entry) (ts : List Turning) (entries : (j : ℕ) (e : Entry) → slice_get es j ≡ Some e → IsEntry cuts others once rs grid base head n es ts j e)
       (unique : (j k : ℕ) (e f : Entry) → slice_get es j ≡ Some e → slice_get es k ≡ Some f → is_loop e.line ≡ true → is_loop f.line ≡ true → e.turning.name ≡ f.turning.name → j ≡ k)
@@ -516,6 +510,48 @@ module _ (cuts : List Split) (others : AreOthers cuts) (once : AreOnce cuts) (rs
           of : (o : Option Binding) → slice_get scope i ≡ o → weight_of o ≤ 49152
           of None e = omega arith
           of (Some b) e = got IsClose scope i b (all_symbols IsClose (omega arith) (λ k c. (let most = count_weight k c in omega (arith, most))) head_close entry_close) e
+
+    -- where there are no lets all symbols are of loops, and near where these are
+    module _ (no_let : (j : ℕ) (e : Entry) → slice_get es j ≡ Some e → IsLetEntry cuts others once rs grid base head n es ts j e → ⊥) (no_head : (j : ℕ) (step : Step) → slice_get head j ≡
+        Some step → ⊥) where
+      pub all_plain : ArePlain scope
+      all_plain i b e = got IsPlain scope i b (all_symbols IsPlain tt (λ k c. tt) (λ j step at_j s b tells. absurd (no_head j step at_j)) entry_plain) e
+        where
+          entry_plain : (j : ℕ) (e : Entry) → slice_get es j ≡ Some e → IsPlain (entry_told e)
+          entry_plain j e at_e = of (entries j e at_e)
+            where
+              of : EntryHere j e → IsPlain (entry_told e)
+              of (inl t) = subst IsPlain (sym (loop_told e t.loop)) tt
+              of (inr l) = absurd (no_let j e at_e l)
+
+      module _ (turn_near : (j : ℕ) (e : Entry) → slice_get es j ≡ Some e → is_loop e.line ≡ true → (unsigned_abs e.turning.low ≤ 73728) × (unsigned_abs e.turning.last ≤ 73728)) where
+        abbrev IsNear : Binding → Type 0
+        IsNear b = weight_of (Some b) ≤ 73728
+
+        entry_near : (j : ℕ) (e : Entry) → slice_get es j ≡ Some e → IsNear (entry_told e)
+        entry_near j e at_e = of (entries j e at_e)
+          where
+            of : EntryHere j e → IsNear (entry_told e)
+            of (inr l) = absurd (no_let j e at_e l)
+            of (inl t) = subst IsNear (sym (loop_told e t.loop)) (by t.limits)
+              where
+                by : (e.limits ≡ []) ⊎ ((c : Split) × In c cuts × (keeps_rest rs c ≡ true) × (e.turning.name ≡ c.inner) × (f : Form) × IsLimit cuts others once rs grid base head n es j c f ×
+                    (e.limits ≡ f ∷ [])) → IsNear (Bound (span e.turning.low e.turning.last e.limits))
+                by (inl none) =
+                    let turn = turn_near j e at_e t.loop in
+                    subst (λ (fs : List Form). IsNear (Bound (span e.turning.low e.turning.last fs))) (sym none)
+                    (both_under (unsigned_abs e.turning.low) (unsigned_abs e.turning.last) 73728 turn.0 turn.1)
+                by (inr (c, m, keeps, name, f, limit, is)) =
+                    subst (λ (x : Span1). IsNear (Bound x)) (sym (capped j e at_e t.loop c m name f limit is).is) (omega arith)
+
+        pub all_near : (i : ℕ) → weight_at scope i ≤ 73728
+        all_near i = of (slice_get scope i) refl
+          where
+            of : (o : Option Binding) → slice_get scope i ≡ o → weight_of o ≤ 73728
+            of None e = omega arith
+            of (Some b) e =
+                got IsNear scope i b (all_symbols IsNear (omega arith) (λ k c. (let most = count_weight k c in omega (arith, most))) (λ j step at_j s b tells. absurd (no_head j step at_j))
+                entry_near) e
 
     -- ---- positions at the first numbers
 

@@ -21,7 +21,8 @@ use Rattle.algo.specs.Written.{IsLiteral, IsWrittenBy, IsTestWrittenBy, AreWritt
 use Rattle.spelling.specs.Terms.Spelling.{suffix_text, operator_word, operator_sign, comparison_text, comma_before, term_text, test_text, row_text}
 use Rattle.spelling.specs.Sizes.Sizes.{fits_size, fits_sizes}
 use Rattle.spelling.specs.Words.Fitting.{fits_term, fits_form, fits_forms, fits_span, fits_region}
-use Rattle.spelling.specs.Words.Spelling.{count_text, number_text, signed_text, symbol_text, separated_text, bracketed_text, term_text as multiple_text, form_text, forms_text, span_text, region_text, counts_text}
+use Rattle.spelling.specs.Words.Spelling.{count_text, number_text, signed_text, symbol_text, separated_text, bracketed_text, term_text as multiple_text, form_text, forms_text, span_text}
+use Rattle.spelling.specs.Words.Spelling.{region_text, counts_text}
 use Rattle.lin.specs.Forms.{Form, is_within_limits}
 use Rattle.lin.specs.declared.form.Multiple.{Multiple}
 use Rattle.lin.specs.declared.span.Span1.{Span1}
