@@ -33,8 +33,8 @@ pub fn own_lines_stand()
     ensures { OwnLinesStand }
 {}
 
-/// Of a schedule under which each stored function is a root function that is computed at no loop, no line of the plan that `lower` makes stores something else than the
-/// algorithm's definition with the calls of unstored functions put in (no K12), where no name of the algorithm reads as a load.
+/// Of a schedule under which each stored function is a root function that is computed at no loop, no line of the plan that `lower` makes stores something
+/// else than the algorithm's definition with the calls of unstored functions put in (no K12), where no name of the algorithm reads as a load.
 pub fn definitions_are_stored()
     ensures { DefinitionsAreStored }
 {}
@@ -49,8 +49,8 @@ pub fn step_lines_are_known()
     ensures { StepLinesAreKnown }
 {}
 
-/// Nor does a line `fetch` (no K2): its buffer is in scope and of the function of the group that it fetches of, which is one of the plan, and its region has a span
-/// for each variable of that function, over symbols of the grid.
+/// Nor does a line `fetch` (no K2): its buffer is in scope and of the function of the group that it fetches of, which is one of the plan, and its region has
+/// a span for each variable of that function, over symbols of the grid.
 pub fn fetch_lines_are_known()
     ensures { FetchLinesAreKnown }
 {}
@@ -60,34 +60,34 @@ pub fn alloc_lines_are_known()
     ensures { AllocLinesAreKnown }
 {}
 
-/// Nor does a line `publish` (no K2), where no line of the plan is past the greatest number by which one is told: its claim is known, stands at a line of the group,
-/// and is of the group's function.
+/// Nor does a line `publish` (no K2), where no line of the plan is past the greatest number by which one is told: its claim is known, stands at a line of the
+/// group, and is of the group's function.
 pub fn publish_lines_are_known()
     ensures { PublishLinesAreKnown }
 {}
 
-/// Nor does a line `store` (no K2), where besides no name of the algorithm reads as a load: its buffer is in scope, and has places for each variable of its function; the
-/// definition is known, and each of its variables has a coordinate, by a form over symbols in scope or an index; and its expressions have those variables alone, and
-/// call the input, or load by a claim that stands in the group, with as many indices as that takes.
+/// Nor does a line `store` (no K2), where besides no name of the algorithm reads as a load: its buffer is in scope, and has places for each variable of its
+/// function; the definition is known, and each of its variables has a coordinate, by a form over symbols in scope or an index; and its expressions have those
+/// variables alone, and call the input, or load by a claim that stands in the group, with as many indices as that takes.
 pub fn store_lines_are_known()
     ensures { StoreLinesAreKnown }
 {}
 
-/// So no line of a group names what is unknown or out of scope, and none binds what is in scope: K2 is told of none of them, where no name of the algorithm reads
-/// as a load, and no line of the plan is past the greatest number by which one is told.
+/// So no line of a group names what is unknown or out of scope, and none binds what is in scope: K2 is told of none of them, where no name of the algorithm
+/// reads as a load, and no line of the plan is past the greatest number by which one is told.
 pub fn groups_name_known()
     ensures { GroupsNameKnown }
 {}
 
-/// Of a schedule under which each stored function is a root function that is computed at no loop, and no loop that a split makes is split again, no loop of the plan
-/// that `lower` makes is marked as a vector and is none (no K13): each such loop stands around its store alone, or around one guard around that, which its lanes pass
-/// in order, and no reduction variable goes by it.
+/// Of a schedule under which each stored function is a root function that is computed at no loop, and no loop that a split makes is split again, no loop of
+/// the plan that `lower` makes is marked as a vector and is none (no K13): each such loop stands around its store alone, or around one guard around that,
+/// which its lanes pass in order, and no reduction variable goes by it.
 pub fn vectors_fit()
     ensures { VectorsFit }
 {}
 
-/// Of a schedule under which each stored function is a root function that is computed at no loop, no form of a line `group` of the plan that `lower` makes is out of the
-/// limits of forms (no K3).
+/// Of a schedule under which each stored function is a root function that is computed at no loop, no form of a line `group` of the plan that `lower` makes is
+/// out of the limits of forms (no K3).
 pub fn group_forms_are_within()
     ensures { GroupFormsAreWithin }
 {}
@@ -112,8 +112,8 @@ pub fn forms_are_within()
     ensures { FormsAreWithin }
 {}
 
-/// So of the lines of groups of such a plan what the checker tells first is a limit of numbers (K14), neither K2, K3, K12 nor K13, where no name of the algorithm reads as a
-/// load, no line is past the greatest number by which one is told, and no loop that a split makes is split again.
+/// So of the lines of groups of such a plan what the checker tells first is a limit of numbers (K14), neither K2, K3, K12 nor K13, where no name of the
+/// algorithm reads as a load, no line is past the greatest number by which one is told, and no loop that a split makes is split again.
 pub fn only_limits_are_told_of_groups()
     ensures { OnlyLimitsAreToldOfGroups }
 {}

@@ -52,9 +52,9 @@ pub fn stores_and_nests_are_left()
     ensures { StoresAndNestsAreLeft }
 {}
 
-/// Of what each line `store` owes, the tests of names alone say yes: its buffer and those of what it loads are in scope (no K4 for that), the claims by which it
-/// loads are in force and of their functions' last definitions, and an update stands in the nest of its claim and loads its own function by the claim of the
-/// definition before (no K5 for that). It is asked that no name of the algorithm reads as a load, and that all lines can be told.
+/// Of what each line `store` owes, the tests of names alone say yes: its buffer and those of what it loads are in scope (no K4 for that), the claims by which
+/// it loads are in force and of their functions' last definitions, and an update stands in the nest of its claim and loads its own function by the claim of
+/// the definition before (no K5 for that). It is asked that no name of the algorithm reads as a load, and that all lines can be told.
 pub fn store_names_are_shown()
     ensures { StoreNamesAreShown }
 {}

@@ -11,9 +11,9 @@ pub fn names_are_no_loads()
     ensures { NamesAreNoLoads }
 {}
 
-/// Of an algorithm whose names and expressions are those of a text, and of a schedule under which each stored function is a root function that is computed at no
-/// loop: all that the plan that `lower` makes names is a name of a text, and each expression that it stores has literals from 0 on that are in their types, such
-/// names, loads by its claims, an index at least in each call, and at most 256 levels.
+/// Of an algorithm whose names and expressions are those of a text, and of a schedule under which each stored function is a root function that is computed at
+/// no loop: all that the plan that `lower` makes names is a name of a text, and each expression that it stores has literals from 0 on that are in their
+/// types, such names, loads by its claims, an index at least in each call, and at most 256 levels.
 pub fn plans_are_said()
     ensures { PlansAreSaid }
 {}
@@ -35,18 +35,18 @@ pub fn files_fit()
     ensures { FilesFit }
 {}
 
-/// Of an algorithm whose names and expressions are those of a text, and of a schedule under which each stored function is a root function that is computed at no
-/// loop, whose loops are split once at most, no inner one parallel, by whatever tails and in whatever order: the lines of the plan that `lower` makes, with its
-/// certificate's behind them, are a plan file of these two and of no other plan. Where none of them has more than 65,536 bytes, they are read as these two; else
-/// the text is refused as past that limit; and it is never refused for its form. None has more where the expressions of each store have at most 3,500 nodes
-/// together.
+/// Of an algorithm whose names and expressions are those of a text, and of a schedule under which each stored function is a root function that is computed at
+/// no loop, whose loops are split once at most, no inner one parallel, by whatever tails and in whatever order: the lines of the plan that `lower` makes,
+/// with its certificate's behind them, are a plan file of these two and of no other plan. Where none of them has more than 65,536 bytes, they are read as
+/// these two; else the text is refused as past that limit; and it is never refused for its form. None has more where the expressions of each store have at
+/// most 3,500 nodes together.
 pub fn files_are_of_plans()
     ensures { FilesAreOfPlans }
 {}
 
-/// Of a schedule under which each stored function is a root function that is computed at no loop, whatever the loops: where the expressions of each definition of a
-/// stored function, with the calls of functions that are not stored put in, have at most 3,500 nodes together, its left indices and its value, so have those of
-/// each store of the plan that `lower` makes; then `files_are_of_plans` says that no line is too long for files.
+/// Of a schedule under which each stored function is a root function that is computed at no loop, whatever the loops: where the expressions of each
+/// definition of a stored function, with the calls of functions that are not stored put in, have at most 3,500 nodes together, its left indices and its
+/// value, so have those of each store of the plan that `lower` makes; then `files_are_of_plans` says that no line is too long for files.
 pub fn stores_are_small()
     ensures { StoresAreSmall }
 {}

@@ -23,9 +23,9 @@ pub fn faults_are_limits()
     ensures { FaultsAreLimits }
 {}
 
-/// Each core schedule is such a one: no function is computed inside a loop of another, each dimension is split once at most, no inner loop of a split is parallel,
-/// and each index of a call or a left side, with the unstored functions put in, is a literal or a variable, plus or minus literals and clamped to literals or not.
-/// So of each core schedule that breaks no rule, whatever the checker tells of its plan is a limit.
+/// Each core schedule is such a one: no function is computed inside a loop of another, each dimension is split once at most, no inner loop of a split is
+/// parallel, and each index of a call or a left side, with the unstored functions put in, is a literal or a variable, plus or minus literals and clamped to
+/// literals or not. So of each core schedule that breaks no rule, whatever the checker tells of its plan is a limit.
 pub fn core_schedules_split_plainly()
     ensures { CoreSplitsPlainly }
 {}
