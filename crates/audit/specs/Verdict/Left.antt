@@ -58,7 +58,8 @@ abbrev mutual
   some_stores_to b Empty = false
   some_stores_to b (Then a rest) = stores_to b a || some_stores_to b rest
 
--- a line of a group that stores into a buffer of which each line `alloc` there has as many dimensions as the store has coordinates, with places that begin near 0
+-- a line of a group that stores into some buffer, of which each line `alloc` there has so many dimensions, with places that begin near 0: such a store leaves it
+-- where it goes past the i32 numbers. That it stands at this line, and has so many coordinates, is not said
 pub record LeavesBuffer (p : Plan) (line : ℕ) : Type 0 where
   pub number : ℕ
   pub group : Group
