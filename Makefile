@@ -50,6 +50,7 @@ test:
 	python3 tests/schedules.py crates/stencil/out/stencil; \
 	python3 tests/schedules.py crates/stencil/out/stencil 1400 2 --core; \
 	python3 tests/schedules.py crates/stencil/out/stencil 500 --placing; \
+	python3 tests/schedules.py crates/stencil/out/stencil 500 --placing-core; \
 	python3 tests/tiles.py crates/stencil/out/stencil; \
 	python3 tests/progress.py crates/stencil/out/stencil; \
 	python3 tests/engines.py crates/stencil/out/stencil; \

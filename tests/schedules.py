@@ -1,7 +1,7 @@
 #!/usr/bin/env python3
 """Compiles random schedules of the algorithms in tests/schedules/ on a built program, and compares the pictures.
 
-    python3 tests/schedules.py PROGRAM [COUNT [SEED]] [--core | --placing]
+    python3 tests/schedules.py PROGRAM [COUNT [SEED]] [--core | --placing | --placing-core]
 
 Half of the schedules split each dimension at most once and no inner loop of a split is parallel: of these each one that
 keeps the rules of schedules has to be compiled. The others split loops again and make any outermost loops parallel: what is
@@ -21,6 +21,9 @@ loop or at one outside of it, folded or not. Such a schedule may also be refused
 and where a function that is computed inside a loop is split by `roundup`: K6 and K8 of one that is folded, since what is
 computed past the end takes the places of what is still read, and K5 of one with updates, since the end of its blocks is no
 form where turns need more of them or fewer.
+
+With `--placing-core` the same of algorithms without updates, and every split is `guard`: then L9 is the only refusal but for
+K14, and a schedule that was compiled is compiled with greater folds, too.
 """
 
 import argparse
@@ -37,6 +40,9 @@ from pathlib import Path
 ALGORITHMS = Path(__file__).resolve().parent / "schedules"
 FACTORS = [1, 2, 2, 3, 4, 4, 5, 7, 8]
 TAILS = ["guard", "roundup", "shift"]
+
+# What is added to each factor of a `fold` that was compiled.
+MORE_PLACES = [1, 2, 5, 100]
 
 # The plans of the first so many schedules are run by each of these numbers of workers, the others by few.
 CREWS = 200
@@ -57,6 +63,7 @@ class Loops:
     """The loops of a function while directives are made up for it, the innermost first."""
 
     names: list
+    tails: list = field(default_factory=lambda: TAILS)
     inner: dict = field(default_factory=dict)
     directives: list = field(default_factory=list)
     marked: set = field(default_factory=set)
@@ -84,7 +91,7 @@ def split(chance, loops, candidates, fresh):
     name = chance.choice(candidates)
     number = next(fresh)
     outer, inner = f"outer{number}", f"inner{number}"
-    factor, tail = chance.choice(FACTORS), chance.choice(TAILS)
+    factor, tail = chance.choice(FACTORS), chance.choice(loops.tails)
     loops.directives.append(f"split({name}, {outer}, {inner}, {factor}, {tail})")
     place = loops.names.index(name)
     loops.names[place:place + 1] = [inner, outer]
@@ -214,9 +221,9 @@ def storage(chance, placed, home, variables):
     return made
 
 
-def placing_directives(chance, text, declared, placed, function, fresh):
+def placing_directives(chance, text, declared, placed, function, fresh, tails):
     """Directives for a function that may be computed inside a loop; none of them leaves it to be put in."""
-    loops = Loops(list(function.variables))
+    loops = Loops(list(function.variables), tails)
     is_output = function is declared[-1]
     home = None
     found = homes(text, declared, placed, function.name)
@@ -246,13 +253,13 @@ def placing_directives(chance, text, declared, placed, function, fresh):
     return loops.directives
 
 
-def placing_schedule(chance, text):
+def placing_schedule(chance, text, tails):
     """A random schedule that computes some function inside a loop."""
     declared = functions(text)
     while True:
         fresh, placed, parts = iter(range(1, 1000)), {}, []
         for function in reversed(declared):
-            made = placing_directives(chance, text, declared, placed, function, fresh)
+            made = placing_directives(chance, text, declared, placed, function, fresh, tails)
             if made:
                 parts.append(function.name + "." + ".".join(made) + ";")
         if any("compute_at(" in part for part in parts):
@@ -346,6 +353,15 @@ def plain_picture(program, text, image):
         return Path(folder, "out").read_bytes()
 
 
+def is_compiled_with(program, folder, made, more):
+    """Whether a schedule is compiled with so many more places in each fold, a limit of the checker aside."""
+    if "fold(" not in made:
+        return True
+    Path(folder, "more.sched").write_text(re.sub(r"fold\((\w+), (\d+)\)", lambda it: f"fold({it[1]}, {int(it[2]) + more})", made))
+    told = run(program, folder, "compile", "a.alg", "more.sched", "more.plan")
+    return told.returncode == 0 or (told.returncode == 1 and b" K14 " in told.stderr)
+
+
 def outcome(program, workers, text, image, picture, made, kind):
     """What came of a schedule, and whether that is right."""
     with tempfile.TemporaryDirectory() as folder:
@@ -362,6 +378,8 @@ def outcome(program, workers, text, image, picture, made, kind):
             return code, is_right
         if breaks_rule(text, made):
             return "compiled, against a rule", False
+        if kind == "inside loops, guarded" and not all(is_compiled_with(program, folder, made, more) for more in MORE_PLACES):
+            return "not compiled with a greater fold", False
         if run(program, folder, "check", "a.alg", "a.plan").returncode != 0:
             return "compiled, not accepted", False
         for count in workers:
@@ -371,16 +389,24 @@ def outcome(program, workers, text, image, picture, made, kind):
         return "compiled", True
 
 
-def tries_of(chance, texts, count, is_placing, is_core):
+def placing_tries(chance, texts, count, is_core):
+    """The same of schedules that compute functions inside the loops of others."""
+    several = [k for k, text in enumerate(texts) if len(functions(text)) > 1 and not (is_core and "update " in text)]
+    tails, kind = (["guard"], "inside loops, guarded") if is_core else (TAILS, "inside loops")
+    made = []
+    for _ in range(count):
+        which = chance.choice(several)
+        made.append((which, placing_schedule(chance, texts[which], tails), kind))
+    return made
+
+
+def tries_of(chance, texts, count, is_core):
     """For each try the number of its algorithm, the schedule and its kind."""
     made = []
     for number in range(count):
-        which = chance.choice([k for k, text in enumerate(texts) if len(functions(text)) > 1]) if is_placing else chance.randrange(len(texts))
-        if is_placing:
-            made.append((which, placing_schedule(chance, texts[which]), "inside loops"))
-        else:
-            core = is_core or number % 2 == 0
-            made.append((which, schedule(chance, texts[which], core), "split once" if core else "split again"))
+        which = chance.randrange(len(texts))
+        core = is_core or number % 2 == 0
+        made.append((which, schedule(chance, texts[which], core), "split once" if core else "split again"))
     return made
 
 
@@ -392,13 +418,17 @@ def main():
     kinds = words.add_mutually_exclusive_group()
     kinds.add_argument("--core", action="store_true")
     kinds.add_argument("--placing", action="store_true")
+    kinds.add_argument("--placing-core", action="store_true")
     given = words.parse_args()
     program = str(Path(given.program).resolve())
     chance = random.Random(given.seed)
     texts = [path.read_text() for path in sorted(ALGORITHMS.glob("*.alg"))]
     images = [raster(text, chance) for text in texts]
     pictures = [plain_picture(program, text, image) for text, image in zip(texts, images)]
-    tries = tries_of(chance, texts, given.count, given.placing, given.core)
+    if given.placing or given.placing_core:
+        tries = placing_tries(chance, texts, given.count, given.placing_core)
+    else:
+        tries = tries_of(chance, texts, given.count, given.core)
     with ThreadPoolExecutor() as pool:
         others = [] if given.core else FEW
         crews = [WORKERS if number < CREWS else others for number in range(len(tries))]
