@@ -68,18 +68,18 @@ number_limited z h = constant_within z h
 counted_limited : (z : ℤ) (s : ℕ) → IsSmall z → Limited (counted_from z s)
 counted_limited z s h = constant_within z h
 
-alone_limited : (s : ℕ) → Limited (alone s)
+pub alone_limited : (s : ℕ) → Limited (alone s)
 alone_limited s = refl
 
-combined_limited : (a : Form) (k : ℤ) (b f : Form) → combined a k b ≡ Some f → Limited f
+pub combined_limited : (a : Form) (k : ℤ) (b f : Form) → combined a k b ≡ Some f → Limited f
 combined_limited a k b f e = (combined-means a k b f e).within
 
 -- ---- numbers of loops
 
 pub record IsSized (r : Numbers) : Type 0 where
-  from : negsuc 2147483647 ≤ℤ r.low
-  to : r.low ≤ℤ pos 2147483647
-  few : r.count < 4294967296
+  pub from : negsuc 2147483647 ≤ℤ r.low
+  pub to : r.low ≤ℤ pos 2147483647
+  pub few : r.count < 4294967296
 
 low_small : (r : Numbers) → IsSized r → IsSmall r.low
 low_small r h = (let a = h.from in let b = h.to in (omega (arith, ints, a), omega (arith, ints, b)))
@@ -90,7 +90,7 @@ last_small r h = (let a = h.from in let b = h.to in let c = h.few in (omega (ari
 room_small : (r : Numbers) (n : ℕ) → n ≤ 1024 → IsSized r → IsSmall (room r n)
 room_small r n le h = (let a = h.from in let b = h.to in let c = h.few in (omega (arith, ints, a, c, le), omega (arith, ints, b, c, le)))
 
-named_sized : (rs : List Numbers) → AllByRecursion IsSized rs → (x : List ℕ) → IsSized (numbers_named rs x)
+pub named_sized : (rs : List Numbers) → AllByRecursion IsSized rs → (x : List ℕ) → IsSized (numbers_named rs x)
 named_sized [] h x = record { from = omega (arith, ints); to = omega (arith, ints); few = omega arith }
 named_sized (r ∷ rs) h x = of (same_name r.name x) (named_sized rs h.1 x)
   where
@@ -124,7 +124,7 @@ halves_sized c count factor few = (
   (record { from = omega (arith, ints); to = omega (arith, ints); few = omega (arith, factor) }, tt),
 )
 
-cut_sized : (cs : List Split) → AllByRecursion (λ c. c.factor ≤ 1024) cs → (rs : List Numbers) → AllByRecursion IsSized rs → AllByRecursion IsSized (cut_numbers cs rs)
+pub cut_sized : (cs : List Split) → AllByRecursion (λ c. c.factor ≤ 1024) cs → (rs : List Numbers) → AllByRecursion IsSized rs → AllByRecursion IsSized (cut_numbers cs rs)
 cut_sized [] f rs h = h
 cut_sized (c ∷ cs) f rs h =
     let count = (numbers_named rs c.whole).count in
@@ -289,7 +289,7 @@ named_limited ks x h = of (form_named ks x) refl
     of None e = tt
     of (Some f) e = found_all (λ y g. Limited g) ks x f h e
 
-variables_limited : (b : BodyText) (d : ℕ) (xs : List (List ℕ)) (ks : List Known) → AllByRecursion (λ (k : Known). Limited k.form) ks → AllByRecursion LimitedIf (variables_at b d xs ks)
+pub variables_limited : (b : BodyText) (d : ℕ) (xs : List (List ℕ)) (ks : List Known) → AllByRecursion (λ (k : Known). Limited k.form) ks → AllByRecursion LimitedIf (variables_at b d xs ks)
 variables_limited b d [] ks h = tt
 variables_limited b d (x ∷ xs) ks h = (of (is_missing b d), variables_limited b (d + 1) xs ks h)
   where
@@ -297,7 +297,7 @@ variables_limited b d (x ∷ xs) ks h = (of (is_missing b d), variables_limited 
     of true = tt
     of false = named_limited ks x h
 
-ranges_limited : (ds : List Turning) (ks : List Known) → AllByRecursion (λ (k : Known). Limited k.form) ks → AllByRecursion LimitedIf (ranges_at ds ks)
+pub ranges_limited : (ds : List Turning) (ks : List Known) → AllByRecursion (λ (k : Known). Limited k.form) ks → AllByRecursion LimitedIf (ranges_at ds ks)
 ranges_limited [] ks h = tt
 ranges_limited (d ∷ ds) ks h = (named_limited ks d.name h, ranges_limited ds ks h)
 

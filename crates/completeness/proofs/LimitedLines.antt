@@ -59,7 +59,7 @@ use Rattle.completeness.proofs.Needed.{whole_limited}
 pub not_wide : (f : Form) → Limited f → IsWide f → ⊥
 not_wide f h w = (let clash : true ≡ false = sym h ∙ wide_form f w in cc clash)
 
-none_wide : (fs : List Form) → AreLimited fs → Any IsWide fs → ⊥
+pub none_wide : (fs : List Form) → AreLimited fs → Any IsWide fs → ⊥
 none_wide fs h w = any_none Limited IsWide not_wide fs h w
 
 pub span_not_wide : (x : Span1) → AreLimited x.lower → AreLimited x.upper → SpanIsWide x → ⊥
@@ -71,7 +71,7 @@ span_not_wide x h k (inr w) = none_wide x.upper k w
 extent_not_wide : (e : Extent) → IsExtent e → SpanIsWide (whole e) → ⊥
 extent_not_wide e h w = (let ends = whole_limited e h in span_not_wide (whole e) ends.0 ends.1 w)
 
-region_not_wide : (es : List Extent) → AllByRecursion IsExtent es → RegionIsWide (map whole es) → ⊥
+pub region_not_wide : (es : List Extent) → AllByRecursion IsExtent es → RegionIsWide (map whole es) → ⊥
 region_not_wide es h w = any_none (λ x. SpanIsWide x → ⊥) SpanIsWide (λ x p r. p r) (map whole es) (each es h) w
   where
     each : (es : List Extent) → AllByRecursion IsExtent es → AllByRecursion (λ x. SpanIsWide x → ⊥) (map whole es)
@@ -80,14 +80,14 @@ region_not_wide es h w = any_none (λ x. SpanIsWide x → ⊥) SpanIsWide (λ x 
 
 -- ---- steps and stores
 
-abbrev P : Statement → Type 0
+abbrev pub P : Statement → Type 0
 P s = IsNestLine s × HasWide s
 
 neither : ⊥ ⊎ ⊥ → ⊥
 neither (inl x) = x
 neither (inr x) = x
 
-steps_clear : (ss : List Step) (inner : Statements) → AllByRecursion StepIs ss → ClearAll P inner → ClearAll P (lines_to ss inner)
+pub steps_clear : (ss : List Step) (inner : Statements) → AllByRecursion StepIs ss → ClearAll P inner → ClearAll P (lines_to ss inner)
 steps_clear [] inner h k = k
 steps_clear (Turns i x kind ∷ ss) inner h k = (((λ w. span_not_wide x h.0.0 h.0.1 w.1), steps_clear ss inner h.1 k), tt)
 steps_clear (Named i pick fs ∷ ss) inner h k = ((λ w. none_wide fs h.0.0 w.1), steps_clear ss inner h.1 k)
@@ -130,7 +130,7 @@ store_clear g fs ms d w limited (Alloc b x places) is = absurd is
 store_clear g fs ms d w limited (Fetch b x region) is = absurd is
 store_clear g fs ms d w limited (Publish x) is = absurd is
 
-nests_clear : (g : StoredText) (fs : List FormulaText) (r : List Span1) (ms : Loads) (m at_line d : ℕ) (ns : List NestText) (xs : List Statement) (cs : List CodeClaim) →
+pub nests_clear : (g : StoredText) (fs : List FormulaText) (r : List Span1) (ms : Loads) (m at_line d : ℕ) (ns : List NestText) (xs : List Statement) (cs : List CodeClaim) →
     AreNests g fs r ms m at_line d ns xs cs → AllByRecursion IsNestLimited ns → ClearAll P (block xs)
 nests_clear g fs r ms m at_line d [] xs cs is limited = subst (λ (ys : List Statement). ClearAll P (block ys)) (sym is.0) tt
 nests_clear g fs r ms m at_line d (w ∷ ns) xs [] is limited = absurd is
@@ -141,7 +141,7 @@ nests_clear g fs r ms m at_line d (w ∷ ns) xs (v ∷ cs) is limited =
     let rest = nests_clear g fs r (ms ++ (g.subject.name, m) ∷ []) (m + 1) (at_line + block_lines (block is.first)) (d + 1) ns is.others cs is.behind limited.1 in
     subst (λ (ys : List Statement). ClearAll P (block ys)) (sym is.are) (joined_clear P is.first is.others here rest)
 
-fetches_clear : (fs : List FetchText) (rest : List Statement) → ClearAll P (block rest) → ClearAll P (block (with_fetches fs rest))
+pub fetches_clear : (fs : List FetchText) (rest : List Statement) → ClearAll P (block rest) → ClearAll P (block (with_fetches fs rest))
 fetches_clear [] rest h = h
 fetches_clear (f ∷ fs) rest h = ((λ w. neither w.0), ((λ w. neither w.0), fetches_clear fs rest h))
 

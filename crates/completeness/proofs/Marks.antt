@@ -42,7 +42,7 @@ module _ (a : Algorithm) (s : Schedule) (stored : List Bool) where
   abbrev text : Function → StoredText
   text f = stored_by a stored f.variables f.value f.changes (subject_said a s f) (loops_after (said s) f)
 
-  marked : (fs : List Function) (n : ℕ) (g : StoredText) → slice_get (stored_among a stored fs (map (subject_said a s) fs) (map (loops_after (said s)) fs)) n ≡ Some g → g.subject.is_stored ≡ true
+  pub marked : (fs : List Function) (n : ℕ) (g : StoredText) → slice_get (stored_among a stored fs (map (subject_said a s) fs) (map (loops_after (said s)) fs)) n ≡ Some g → g.subject.is_stored ≡ true
   marked [] n g e = absurd (cc e)
   marked (f ∷ fs) n g e = of (subject_said a s f).is_stored refl n e (λ m q. marked fs m g q)
     where
@@ -61,7 +61,7 @@ either_none : (b : Bool) → (b || false) ≡ b
 either_none true = refl
 either_none false = refl
 
-any_at : {A : Type 0} (test : A → Bool) (xs : List A) → list_any test xs ≡ true → (i : ℕ) × (x : A) × (slice_get xs i ≡ Some x) × (test x ≡ true)
+pub any_at : {A : Type 0} (test : A → Bool) (xs : List A) → list_any test xs ≡ true → (i : ℕ) × (x : A) × (slice_get xs i ≡ Some x) × (test x ≡ true)
 any_at test [] e = absurd (cc e)
 any_at test (x ∷ xs) e = of (test x) refl e (any_at test xs)
   where
@@ -130,7 +130,7 @@ module _ (x : List ℕ) where
 
 -- ---- marks
 
-both_ways : (b c : Bool) → (b ≡ true → c ≡ true) → (c ≡ true → b ≡ true) → b ≡ c
+pub both_ways : (b c : Bool) → (b ≡ true → c ≡ true) → (c ≡ true → b ≡ true) → b ≡ c
 both_ways true c f g = sym (f refl)
 both_ways false true f g = g refl
 both_ways false false f g = refl

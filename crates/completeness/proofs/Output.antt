@@ -37,12 +37,12 @@ use Rattle.completeness.proofs.Points.{tests_region}
 
 -- ---- the output's function
 
-record IsNamed (fs : List Function) (name : List ℕ) (f : Function) : Type 0 where
-  place : ℕ
-  at : slice_get fs place ≡ Some f
-  is : f.name ≡ name
+pub record IsNamed (fs : List Function) (name : List ℕ) (f : Function) : Type 0 where
+  pub place : ℕ
+  pub at : slice_get fs place ≡ Some f
+  pub is : f.name ≡ name
 
-named_is : (fs : List Function) (name : List ℕ) (f : Function) → function_named fs name ≡ Some f → IsNamed fs name f
+pub named_is : (fs : List Function) (name : List ℕ) (f : Function) → function_named fs name ≡ Some f → IsNamed fs name f
 named_is [] name f e = absurd (cc e)
 named_is (g ∷ fs) name f e = of (same_name g.name name) refl e (named_is fs name f)
   where
@@ -52,7 +52,7 @@ named_is (g ∷ fs) name f e = of (same_name g.name name) refl e (named_is fs na
         record { place = 0; at = q; is = ap (λ (u : Function). u.name) (sym same) ∙ name_true g.name name t }
     of false t q rest = let w = rest q in record { place = suc w.place; at = w.at; is = w.is }
 
-output_is : (a : Algorithm) → IsAlgorithm a → (f : Function) × (function_named a.functions a.output ≡ Some f) × IsOutput a.output_extents f
+pub output_is : (a : Algorithm) → IsAlgorithm a → (f : Function) × (function_named a.functions a.output ≡ Some f) × IsOutput a.output_extents f
 output_is a w = of (function_named a.functions a.output) refl w.output
   where
     of : (o : Option Function) → function_named a.functions a.output ≡ o → MatchOption o ⊥ (IsOutput a.output_extents) →
@@ -99,7 +99,7 @@ group_at (u ∷ gs) [] h n g e = absurd h
 group_at (u ∷ gs) (p ∷ ps) h zero g e = let same : u ≡ g = cc e in subst (GroupAt (p ∷ ps) 0) same (record { group = p; at = refl; is = h.0 })
 group_at (u ∷ gs) (p ∷ ps) h (suc n) g e = let w = group_at gs ps h.1 n g e in record { group = w.group; at = w.at; is = w.is }
 
-or_first : (b c : Bool) → b ≡ true → (b || c) ≡ true
+pub or_first : (b c : Bool) → b ≡ true → (b || c) ≡ true
 or_first true c h = refl
 or_first false c h = absurd (cc h)
 

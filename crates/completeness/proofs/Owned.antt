@@ -161,7 +161,7 @@ module _ (g : StoredText) (p : Group) (extents : List Extent) (k : SkeletonText)
       let same = made.once blocked q (grid_point p.grid i) (grid_point p.grid j) (in_grid i less) (in_grid j below) (owns i q one) (owns j q two) in
       sym (grid_ranked p.grid i less) ∙ ap (grid_rank p.grid) same ∙ grid_ranked p.grid j below
 
-  parts : PartsGroup p r
+  pub parts : PartsGroup p r
   parts = record {
     group_ends = subst HaveEnds (sym region) (whole_ends extents);
     own_ends = own_ends (lay_over g extents k) g.placed.cuts g.subject.variables;

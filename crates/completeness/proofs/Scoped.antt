@@ -55,7 +55,7 @@ use Rattle.completeness.proofs.Unlike.{placed_body}
 
 -- no loop, let or guard of the statement binds one of these, or one that it bound before, or names another
 abbrev mutual
-  Keeps : Statement → List ℕ → Type 0
+  pub Keeps : Statement → List ℕ → Type 0
   Keeps (Seq all) ss = KeepAll all ss
   Keeps (For i x kind body) ss = ¬ (Contains ss i ⊎ SpanNamesOther ss x) × Keeps body (ss ++ i ∷ [])
   Keeps (Let i pick forms) ss = ¬ (Contains ss i ⊎ Any (NamesOther ss) forms)
@@ -66,7 +66,7 @@ abbrev mutual
   Keeps (Store b k at e) ss = Unit {0}
   Keeps (Publish k) ss = Unit {0}
 
-  KeepAll : Statements → List ℕ → Type 0
+  pub KeepAll : Statements → List ℕ → Type 0
   KeepAll Empty ss = Unit {0}
   KeepAll (Then a rest) ss = Keeps a ss × KeepAll rest (symbols_after a ss)
 
@@ -75,7 +75,7 @@ module _ (a : Algorithm) (p : Plan) (c : Certificate) (n : ℕ) (g : Group) (lin
   Flawed s here = (line_told here.line ≡ line) × (IsStep s × NamesUnknown a p c g (outline_of p c n g) s here)
 
   mutual
-    none_inside : (s : Statement) (here : Here) → Keeps s here.symbols → Inside Flawed s here → ⊥
+    pub none_inside : (s : Statement) (here : Here) → Keeps s here.symbols → Inside Flawed s here → ⊥
     none_inside (Seq all) here h k = none_in_all all here h k
     none_inside (For i x kind body) here h (inl k) = h.0 k.1.1
     none_inside (For i x kind body) here h (inr k) = none_inside body (in_loop i here) h.1 k
@@ -109,7 +109,7 @@ pub record Scope (P : ℕ → Type 0) (n : ℕ) (ss : List ℕ) : Type 0 where
   pub has : (s : ℕ) → P s → Has ss s
   pub below : (s : ℕ) → Has ss s → s < n
 
-last_or : (xs : List ℕ) (i s : ℕ) → Has (xs ++ i ∷ []) s → Has xs s ⊎ (i ≡ s)
+pub last_or : (xs : List ℕ) (i s : ℕ) → Has (xs ++ i ∷ []) s → Has xs s ⊎ (i ≡ s)
 last_or [] i s h = of (i == s) refl h
   where
     of : (b : Bool) → (i == s) ≡ b → (b || false) ≡ true → Has [] s ⊎ (i ≡ s)
@@ -188,7 +188,7 @@ module _ (P : ℕ → Type 0) (from to i : ℕ) (ss : List Step) (first : i ≡ 
       let told : SpanOnly (Bound (With P i) ss) (span w.low w.last w.limits) = subst (SpanOnly (Bound (With P i) ss)) w.is h in
       subst (SpanOnly P) (sym w.is) ((tt, tt), (tt, outer_forms w.limits told.1.1 w.good))
 
-steps_kept : (P : ℕ → Type 0) (n m from to : ℕ) (ts : List Step) → Rises n ts m → Ordered from ts to → StepsOver P ts → (inner : Statements) (ss : List ℕ) → Scope P n ss →
+pub steps_kept : (P : ℕ → Type 0) (n m from to : ℕ) (ts : List Step) → Rises n ts m → Ordered from ts to → StepsOver P ts → (inner : Statements) (ss : List ℕ) → Scope P n ss →
     ((us : List ℕ) → Scope (Bound P ts) m us → KeepAll inner us) → KeepAll (lines_to ts inner) ss
 steps_kept P n m from to [] r o v inner ss sc k =
     k ss (subst (λ (m : ℕ). Scope (Bound P []) m ss) r (record { has = none; below = sc.below }))
@@ -272,13 +272,13 @@ module _ (g : StoredText) (fs : List FormulaText) (ls : Loads) (d : ℕ) (w : Ne
   store_kept (Fetch b x region) is ss = absurd is
   store_kept (Publish x) is ss = absurd is
 
-fetches_kept : (xs : List FetchText) (rest : List Statement) (ss : List ℕ) → KeepAll (block rest) ss → KeepAll (block (with_fetches xs rest)) ss
+pub fetches_kept : (xs : List FetchText) (rest : List Statement) (ss : List ℕ) → KeepAll (block rest) ss → KeepAll (block (with_fetches xs rest)) ss
 fetches_kept [] rest ss h = h
 fetches_kept (y ∷ xs) rest ss h = (tt, (tt, fetches_kept xs rest ss h))
 
 module _ (g : StoredText) (fs : List FormulaText) (k : SkeletonText) (Q : ℕ → Type 0) (least : ℕ) (order : (i : ℕ) (n : NestText) → slice_get k.nests i ≡ Some n → BindsBehind least n)
     (over : (i : ℕ) (n : NestText) → slice_get k.nests i ≡ Some n → StepsOver Q n.steps) (r : List Span1) (claim : ℕ) where
-  nests_kept : (ms : Loads) (m at_line d next : ℕ) (ns : List NestText) (xs : List Statement) (cs : List CodeClaim) → AreNests g fs r ms m at_line d ns xs cs → NestsRise next ns →
+  pub nests_kept : (ms : Loads) (m at_line d next : ℕ) (ns : List NestText) (xs : List Statement) (cs : List CodeClaim) → AreNests g fs r ms m at_line d ns xs cs → NestsRise next ns →
       ((j : ℕ) (w : NestText) → slice_get ns j ≡ Some w → slice_get k.nests (d + j) ≡ Some w) → (ss : List ℕ) → Scope Q next ss → KeepAll (block (xs ++ Publish claim ∷ [])) ss
   nests_kept ms m at_line d next [] xs cs is up there ss sc = subst (λ (ys : List Statement). KeepAll (block (ys ++ Publish claim ∷ [])) ss) (sym is.0) (tt, tt)
   nests_kept ms m at_line d next (w ∷ ns) xs [] is up there ss sc = absurd is

@@ -45,7 +45,7 @@ same_output a (Some f) ty e h is =
     let there : ty ≡ f.ty = is ∙ ap (λ (o : Option Function). elim o [ Some g ↦ g.ty | None ↦ U8 ]) e in
     subst (λ (o : Option Function). MatchOption o ⊥ (λ g. ty ≡ g.ty)) (sym e) there
 
-own_head : (a : Algorithm) (p : PlanMade) → IsAlgorithm a → IsHeadOf a p → HasOwnHead a (plan_of p)
+pub own_head : (a : Algorithm) (p : PlanMade) → IsAlgorithm a → IsHeadOf a p → HasOwnHead a (plan_of p)
 own_head a p well h = record {
   name = h.named;
   input = record { name = h.input.named; ty = h.input.ty; extents = h.input.extents };
@@ -75,7 +75,7 @@ shared a s l well legal small kept groups all inners =
       output = whole_output a s l well legal small regions all groups;
     }
 
-piece_below : (p : Plan) (n piece : ℕ) (o : Option Piece) → slice_get (pieces p) piece ≡ o → MatchOption o ⊥ (λ j. j.group ≡ n) → piece < length (pieces p)
+pub piece_below : (p : Plan) (n piece : ℕ) (o : Option Piece) → slice_get (pieces p) piece ≡ o → MatchOption o ⊥ (λ j. j.group ≡ n) → piece < length (pieces p)
 piece_below p n piece None e h = absurd h
 piece_below p n piece (Some j) e h = get_within (pieces p) piece j e
 

@@ -28,7 +28,7 @@ use Rattle.sched.specs.Skeleton.{NestText, SkeletonText}
 use Rattle.validation.specs.Groups.Lines.{Here, in_loop, inside, in_later, before, after, is_empty, start}
 use Rattle.validation.specs.Groups.Inside.{Inside, InsideOne}
 use Rattle.validation.specs.Groups.Wrong.{IsDefinition, StoresAnother, IsNotDefinitionAt}
-use Rattle.validation.specs.Stored.Definitions.{parts_of, parts_named, definition_in}
+use Rattle.validation.specs.Stored.Definitions.{parts_of, parts_named, definition_in, stored_in}
 use Rattle.lower.specs.declared.lowering.Lowered.{Lowered}
 use Rattle.lower.specs.Stored.{FormulaText, StoredText, stored_by, stored_functions, flags, has_large}
 use Rattle.lower.specs.Faults.{are_whole, region_fault}
@@ -179,7 +179,7 @@ module _ (a : Algorithm) (all : List Entry) (full : List CodeClaim) where
 
 -- ---- stores
 
-both_match : {A : Type 0} (P : A → Type 0) (o : Option A) → MatchOption o ⊥ P → MatchOption o ⊥ (λ x. ¬ P x) → ⊥
+pub both_match : {A : Type 0} (P : A → Type 0) (o : Option A) → MatchOption o ⊥ P → MatchOption o ⊥ (λ x. ¬ P x) → ⊥
 both_match P None h k = h
 both_match P (Some x) h k = k h
 
@@ -187,9 +187,8 @@ some_and : {A : Type 0} (P : A → Type 0) (o : Option A) → IsSomeAnd o P → 
 some_and P None h = absurd h
 some_and P (Some x) h = (x, refl, h)
 
-module _ (a : Algorithm) (sch : Schedule) (l : Lowered) (well : IsAlgorithm a) (legal : IsLegal a sch) (small : has_large (stored_functions a sch) ≡ false)
-    (kept : region_fault a (stored_functions a sch) ≡ None) (all : are_whole (stored_functions a sch) ≡ true) (groups : HasGroups a (stored_functions a sch) l)
-    (free : NamesNoLoad a) where
+module _ (a : Algorithm) (sch : Schedule) (l : Lowered) (well : IsAlgorithm a) (free : NamesNoLoad a) (input : (plan_of l.plan).input.name ≡ a.input)
+    (few : length l.certificate.claims.items < 10000) (marked : stored_in a (plan_of l.plan) ≡ flags (subjects a sch)) (entries : List Entry) where
   abbrev items : List CodeClaim
   items = l.certificate.claims.items
 
@@ -201,12 +200,6 @@ module _ (a : Algorithm) (sch : Schedule) (l : Lowered) (well : IsAlgorithm a) (
 
   abbrev st : List Bool
   st = flags (subjects a sch)
-
-  abbrev entries : List Entry
-  entries = roots a sch l well legal small kept all groups
-
-  few : length items < 10000
-  few = few_claims a sch l well legal small kept all groups
 
   abbrev text : Function → StoredText
   text f = stored_by a st f.variables f.value f.changes (subject_said a sch f) (loops_after (said sch) f)
@@ -238,8 +231,8 @@ module _ (a : Algorithm) (sch : Schedule) (l : Lowered) (well : IsAlgorithm a) (
     store_clear ms loads d w there (Store b kk cs e) is = λ other.
         let u = some_and _ (slice_get fs d) is.2 in
         let shape = nest_shape f.variables (bodies_from f.changes 0 names fs) (loops_after (said sch) f) h.extents k h.laid d w there in
-        let right = of_definition a well free p c i (group_of q) groups.head.input.named items refl few st
-        (marks a sch l well legal small kept all groups) ms loads place f at fs h.defined names d w shape cs e
+        let right = of_definition a well free p c i (group_of q) input items refl few st
+        marked ms loads place f at fs h.defined names d w shape cs e
         u.0 u.1 u.2 in
         let parts : parts_named a f.name ≡ Some (parts_of f) = ap (λ (o : Option Function). option_map parts_of o) (named_here a well place f at) in
         let wrong = subst (λ (m : ℕ). MatchOption (definition_in (parts_named a (function_in (allocated (statement_of q.body) b))) m) ⊥
@@ -286,7 +279,7 @@ module _ (a : Algorithm) (sch : Schedule) (l : Lowered) (well : IsAlgorithm a) (
     fetches_clear [] rest x = x
     fetches_clear (y ∷ xs) rest x = (λ e. e, (λ e. e, fetches_clear xs rest x))
 
-    body_clear : Clear Another (statement_of q.body)
+    pub body_clear : Clear Another (statement_of q.body)
     body_clear =
         let b = h.body in
         let before_own = first_numbered a entries items first claims b.fetched b.own b.claimed numbered in
@@ -299,16 +292,24 @@ module _ (a : Algorithm) (sch : Schedule) (l : Lowered) (well : IsAlgorithm a) (
         let inner = fetches_clear b.fetches (b.nests ++ Publish (last_claim first b.fetches k) ∷ []) (joined_clear Another b.nests (Publish (last_claim first b.fetches k) ∷ []) nests (λ e. e, tt)) in
         subst (Clear Another) (sym b.with.is) (steps_clear k.head (block (Alloc 0 f.name _ ∷ with_fetches b.fetches (b.nests ++ Publish (last_claim first b.fetches k) ∷ []))) (λ e. e, inner))
 
-  none_at : (line : ℕ) → IsNotDefinitionAt a p c line → ⊥
+module _ (a : Algorithm) (sch : Schedule) (l : Lowered) (well : IsAlgorithm a) (legal : IsLegal a sch) (small : has_large (stored_functions a sch) ≡ false)
+    (kept : region_fault a (stored_functions a sch) ≡ None) (all : are_whole (stored_functions a sch) ≡ true) (groups : HasGroups a (stored_functions a sch) l)
+    (free : NamesNoLoad a) where
+  none_at : (line : ℕ) → IsNotDefinitionAt a (plan_of l.plan) (certificate_of l.certificate) line → ⊥
   none_at line h =
+      let entries = roots a sch l well legal small kept all groups in
+      let items = l.certificate.claims.items in
+      let p = plan_of l.plan in
+      let c = certificate_of l.certificate in
       let x = from_map group_of l.plan.groups.items h.number h.group h.there in
       let q = x.0 in
       let me = made_at a sch l well legal small kept all groups h.number q x.1 in
-      let w = found a sch st me.stored a.functions h.number me.is in
+      let w = found a sch (flags (subjects a sch)) me.stored a.functions h.number me.is in
       let b = placed_body a entries items 0 0 4 (stored_functions a sch) l.plan.groups.items items l.certificate.needs.items (groups.bodies all)
       (λ j v e. let none : 0 + j ≡ j = omega arith in ap (slice_get items) none ∙ e) h.number me.stored q me.is x.1 in
       let body = subst (λ (u : StoredText). HasBody a entries (0 + h.number) b.first_claim b.line u q b.claims b.needs) w.is b.body in
-      let clear = body_clear h.number q w.place w.function w.at (0 + h.number) b.first_claim b.line b.claims b.needs body b.numbered in
+      let clear = body_clear a sch l well free groups.head.input.named (few_claims a sch l well legal small kept all groups) (marks a sch l well legal small kept all groups) entries
+      h.number q w.place w.function w.at (0 + h.number) b.first_claim b.line b.claims b.needs body b.numbered in
       let first : Group → Here = λ u. start (line_told (group_line p h.number)) u in
       let stands = subst (λ (u : Group). Inside (λ s here. (line_told here.line ≡ line) × StoresAnother a p (outline_of p c h.number u) s) u.body (first u)) x.2 h.stands in
       none_inside (λ s. StoresAnother a p (outline_of p c h.number (group_of q)) s) line (statement_of q.body) clear (first (group_of q)) stands

@@ -2,6 +2,7 @@ pub mod Parted
 pub mod Laws
 pub mod Owed
 pub mod Nested
+pub mod Looped
 pub mod Stores
 pub mod Simple
 pub mod Placed
@@ -15,3 +16,4 @@ pub mod Worked
 pub mod SaidCertificates
 pub mod SaidFiles
 pub mod OfPlans
+pub mod Inside

@@ -4,7 +4,9 @@
 pub mod blocked;
 pub mod filled;
 pub mod fitting;
+pub mod inside;
 pub mod laws;
+pub mod looped;
 pub mod nests;
 pub mod owed;
 pub mod said;
