@@ -12,7 +12,6 @@ use Rattle.lin.specs.declared.span.Span1.{Span1}
 use Rattle.meaning.specs.Algorithm.{Algorithm}
 use Rattle.meaning.specs.Names.{same_name}
 use Rattle.sched.specs.declared.schedule.Home.{Home}
-use Rattle.sched.specs.declared.schedule.Split.{Split}
 use Rattle.sched.specs.declared.nest.Nest.{Nest}
 use Rattle.sched.specs.Skeleton.{NestText, nest_seen}
 use Rattle.lower.specs.declared.definitions.Formula.{Formula}
@@ -33,8 +32,9 @@ use Rattle.lower.specs.Groups.{root_of}
 use Rattle.lower.specs.Uses.{first_home}
 use Rattle.lower.specs.Placed.{LaterText, PlacedText, inner_seen, later_seen}
 use Rattle.lower.specs.Homes.{HostText, host_at, hosts_named, is_over_grid, spot_in, put_before}
-use Rattle.lower.specs.Demanded.{scope_at, sites_at, is_rounding, is_rounded, IsNeeded}
-use Rattle.lower.specs.Slid.{TrackText, is_single, is_split, fit_along, sliding_seen, sliding_at, new_from, new_region, held_along, IsLater, HasLater, HoldsNone, HoldsBy, Holds}
+use Rattle.lower.specs.Demanded.{scope_at, sites_at, is_rounding, is_rounded}
+use Rattle.lower.specs.Guarded.{needed_at}
+use Rattle.lower.specs.Slid.{TrackText, is_single, is_split, fit_along, sliding_seen, sliding_at, new_from, new_region, held_along, IsLater, HasLater, HoldsBy, Holds}
 use Rattle.lower.specs.Parted.{kept_region, nests_over}
 use Rattle.lower.specs.Rounded.{lain_over, lain_kept, claim_of, begun_seen, lain_seen}
 use Rattle.lower.specs.Computed.{before, spots_in, spots_by, spots_of_hosts, spots_at, spots_of, is_called, called_spots, IsLain, IsComputed, AreComputed, AreComputedIf, AreFound, AreFoundIf, IsComputedAt, IsComputedBy, AreComputedAt}
@@ -121,7 +121,7 @@ is_lain a g fs around region kept o l i told laid lets nests claims =
 module _ (a : Algorithm) (e : Entry) (es : List Entry) (is : List PlacedText) (c : Entry) where
   pub is_computed : (home store : Spot) (sites : List SiteText) (outer around : List Binding) (needed : List Span1) (o : Option (TrackText × ℕ)) (i : PlacedText) → i.function ≡ c.0 → i.formulas ≡ c.2
       → i.home ≡ home → i.store ≡ store → outer ≡ scope_at e is store → around ≡ scope_at e is home → i.scope ≡ bind_steps around i.lets → sites_at a e is home c.0.subject.name ≡ Some sites
-      → IsNeeded around sites c.0 c.1.region needed → o ≡ sliding_at e is c.0 home store needed → Holds es c.0 c.2 (length outer) around needed o i.region i.later
+      → needed_at a e is home around sites c.0 c.1.region ≡ Some needed → o ≡ sliding_at e is c.0 home store needed → Holds es c.0 c.2 (length outer) around needed o i.region i.later
       → IsLain (lain_kept a c.0 c.2 around i.region (kept_region (length outer) around i.region)) i → IsComputed a e es is c i
   is_computed home store sites outer around needed o i function formulas at stored is_outer is_around scoped called is_needed slides holds lain =
       let there : around ≡ scope_at e is i.home = is_around ∙ ap (scope_at e is) (sym at) in
@@ -138,7 +138,7 @@ module _ (a : Algorithm) (e : Entry) (es : List Entry) (is : List PlacedText) (c
         sites = sites;
         called = ap (λ (s : Spot). sites_at a e is s c.0.subject.name) at ∙ called;
         region = needed;
-        needed = subst (λ (b : List Binding). IsNeeded b sites c.0 c.1.region needed) there is_needed;
+        needed = (λ j. needed_at a e is (at j) (sym there j) sites c.0 c.1.region) ∙ is_needed;
         holds = subst (λ (b : List Binding). Holds es c.0 c.2 (length (scope_at e is i.store)) b needed (sliding_at e is c.0 i.home i.store needed) i.region i.later) there behind;
         lain = subst (λ (b : List Binding). IsLain (lain_kept a c.0 c.2 b i.region (kept_region (length (scope_at e is i.store)) b i.region)) i) there
             (subst (λ (b : List Binding). IsLain (lain_kept a c.0 c.2 around i.region (kept_region (length b) around i.region)) i) beside lain);

@@ -1,10 +1,9 @@
 -- What stands around a place, which functions are computed there, and what is called there, part by part.
-use Rattle.std.proofs.Common.{◌≡◌, ℕ, zero, suc, ◌+◌, ◌<◌, Bool, true, false, List, [], ◌∷◌, ◌++◌, length, map, Option, Some, None, Result, Ok, Err, refl, sym, ap, subst, ◌∙◌, arith}
+use Rattle.std.proofs.Common.{◌≡◌, ℕ, zero, suc, ◌+◌, ◌<◌, Bool, true, false, List, [], length, map, Option, Some, None, refl, sym, ap, ◌∙◌, arith}
 use Rattle.std.specs.Prelude.{slice_get, if◌then◌else◌}
 use Rattle.std.specs.Option.{option_map}
 use Rattle.std.proofs.lemmas.Option.{slice_get-map}
 use Rattle.std.proofs.lemmas.List.{length-map}
-use Rattle.std.proofs.lemmas.Bool.{false≢true}
 use Rattle.lin.specs.declared.scope.Binding.{Binding}
 use Rattle.lin.specs.declared.span.Span1.{Span1}
 use Rattle.sched.specs.declared.nest.Nest.{Nest}
@@ -16,9 +15,10 @@ use Rattle.lower.specs.declared.sliding.Later.{Later}
 use Rattle.lower.specs.declared.spots.Spot.{Spot}
 use Rattle.lower.specs.Around.{bind_steps}
 use Rattle.lower.specs.Fetches.{Entry}
-use Rattle.lower.specs.Placed.{LaterText, PlacedText, inner_seen, later_seen, same_host}
+use Rattle.lower.specs.Placed.{PlacedText, inner_seen, later_seen, same_host}
 use Rattle.lower.specs.Homes.{HostText, host_at}
-use Rattle.lower.specs.Demanded.{scope_of, later_scope_of, later_scope_at, scope_over, nest_at, first_steps, steps_at, with_steps, scope_at, number_of, is_behind, inside_by, stands_inside, are_inside, add_better, IsKept, IsTold}
+use Rattle.lower.specs.Demanded.{scope_of, later_scope_of, later_scope_at, scope_over, nest_at, first_steps, steps_at, with_steps, scope_at, number_of, is_behind, inside_by, stands_inside}
+use Rattle.lower.specs.Guarded.{region_in}
 
 -- ---- what stands around a place
 
@@ -136,14 +136,8 @@ module _ (inners : List Inner) (s : Spot) (deep below n : ℕ) where
 
 -- ---- what is needed there
 
-pub kept_is : (scope : List Binding) (ws q r : List Span1) → r ≡ q → IsKept scope ws q r
-kept_is scope ws q r h = record { told = None; is = h; kept = λ all. h }
+pub region_found : (inners : List Inner) (n : ℕ) (i : Inner) (r : List Span1) → slice_get inners n ≡ Some i → r ≡ i.region → r ≡ region_in (slice_get (map inner_seen inners) n)
+region_found inners n i r e h = h ∙ ap region_in (sym (seen_at inners n i e))
 
-pub better_is : (scope : List Binding) (ws q ts r : List Span1) → are_inside scope q ws ≡ false → r ≡ add_better scope q ts ws [] → IsKept scope ws q r
-better_is scope ws q ts r isnt h = record { told = Some ts; is = h; kept = λ all. absurd (false≢true (sym isnt ∙ all)) }
-
-pub told_is : (scope : List Binding) (ws q r : List Span1) (o : Option (List Span1)) → o ≡ Some q → IsKept scope ws q r → IsTold scope ws o r
-told_is scope ws q r o e h = subst (λ (p : Option (List Span1)). IsTold scope ws p r) (sym e) h
-
-pub told_none : (scope : List Binding) (ws r : List Span1) (o : Option (List Span1)) → o ≡ None → IsTold scope ws o r
-told_none scope ws r o e = subst (λ (p : Option (List Span1)). IsTold scope ws p r) (sym e) tt
+pub no_region : (inners : List Inner) (n : ℕ) (r : List Span1) → slice_get inners n ≡ None → r ≡ [] → r ≡ region_in (slice_get (map inner_seen inners) n)
+no_region inners n r e h = h ∙ ap region_in (sym (none_at inners n e))

@@ -18,6 +18,7 @@ pub mod Firsts
 pub mod Gridded
 pub mod Grids
 pub mod Grouped
+pub mod Guards
 pub mod Holding
 pub mod Hosts
 pub mod Inputs

@@ -1,5 +1,5 @@
 -- Which functions are computed inside a group's loops: the last declared first, each at those places of its loop at which it is called, over what is needed of it there.
-use Rattle.std.specs.Prelude.{◌≡◌, ℕ, zero, suc, ◌+◌, Bool, true, false, not, ◌||◌, if◌then◌else◌, List, [], ◌∷◌, ◌++◌, length, map, Option, Some, None, Result, Ok, Err, slice_get}
+use Rattle.std.specs.Prelude.{◌≡◌, ℕ, zero, suc, ◌+◌, Bool, true, false, if◌then◌else◌, List, [], ◌∷◌, ◌++◌, length, map, Option, Some, None, Result, Ok, Err, slice_get}
 use Rattle.std.specs.List.{AllByRecursion}
 use Rattle.std.specs.Global.{Vec}
 use Rattle.lin.specs.declared.span.Span1.{Span1}
@@ -10,14 +10,15 @@ use Rattle.sched.specs.Skeleton.{NestText}
 use Rattle.lower.specs.declared.inner.Inner.{Inner}
 use Rattle.lower.specs.declared.spots.Host.{Host}
 use Rattle.lower.specs.declared.spots.Spot.{Spot}
-use Rattle.lower.specs.Stored.{FormulaText, StoredText}
+use Rattle.lower.specs.Stored.{StoredText}
 use Rattle.lower.specs.Around.{bind_steps}
 use Rattle.lower.specs.Taken.{SiteText}
 use Rattle.lower.specs.Fetches.{Entry}
 use Rattle.lower.specs.Uses.{first_home}
 use Rattle.lower.specs.Placed.{PlacedText, inner_seen}
 use Rattle.lower.specs.Homes.{HostText, host_at, hosts_named, is_over_grid, spot_in}
-use Rattle.lower.specs.Demanded.{scope_at, sites_at, IsNeeded}
+use Rattle.lower.specs.Demanded.{scope_at, sites_at}
+use Rattle.lower.specs.Guarded.{needed_at}
 use Rattle.lower.specs.Parted.{kept_region}
 use Rattle.lower.specs.Rounded.{LainText, lain_kept, claim_of}
 use Rattle.lower.specs.Slid.{sliding_at, Holds}
@@ -84,7 +85,7 @@ pub record IsComputed (a : Algorithm) (e : Entry) (es : List Entry) (is : List P
   pub sites : List SiteText
   pub called : sites_at a e is i.home c.0.subject.name ≡ Some sites
   pub region : List Span1
-  pub needed : IsNeeded (scope_at e is i.home) sites c.0 c.1.region region
+  pub needed : needed_at a e is i.home (scope_at e is i.home) sites c.0 c.1.region ≡ Some region
   pub holds : Holds es c.0 c.2 (length (scope_at e is i.store)) (scope_at e is i.home) region (sliding_at e is c.0 i.home i.store region) i.region i.later
   pub lain : IsLain (lain_kept a c.0 c.2 (scope_at e is i.home) i.region (kept_region (length (scope_at e is i.store)) (scope_at e is i.home) i.region)) i
 

@@ -1,5 +1,5 @@
 -- What is needed of a function at a place of a nest: what stands around the place, the calls of the function there and inside of it, and the region that they need.
-use Rattle.std.specs.Prelude.{◌≡◌, ℕ, zero, suc, ◌+◌, ◌==◌, Bool, true, false, not, ◌&&◌, ◌||◌, if◌then◌else◌, List, [], ◌∷◌, ◌++◌, length, map, take, nat_le, Option, Some, None, slice_get}
+use Rattle.std.specs.Prelude.{ℕ, zero, suc, ◌+◌, ◌==◌, Bool, true, false, ◌&&◌, if◌then◌else◌, List, [], ◌∷◌, ◌++◌, length, take, nat_le, Option, Some, None, slice_get}
 use Rattle.std.specs.Option.{is_some}
 use Rattle.std.specs.List.{list_any}
 use Rattle.lin.specs.Regions.{span_inside}
@@ -22,7 +22,7 @@ use Rattle.lower.specs.Bounded.{whole}
 use Rattle.lower.specs.Taken.{SiteText, add_sites, needed_span}
 use Rattle.lower.specs.Fetches.{Entry}
 use Rattle.lower.specs.Placed.{LaterText, PlacedText, same_host, same_number}
-use Rattle.lower.specs.Homes.{HostText, host_at}
+use Rattle.lower.specs.Homes.{host_at}
 
 -- ---- what stands around a place
 
@@ -154,22 +154,3 @@ add_better scope [] ts ws before = before
 add_better scope (s ∷ ss) [] ws before = before
 add_better scope (s ∷ ss) (t ∷ ts) [] before = before
 add_better scope (s ∷ ss) (t ∷ ts) (w ∷ ws) before = add_better scope ss ts ws (before ++ better scope s t w ∷ [])
-
-abbrev pub with_told : List Binding → List Span1 → Option (List Span1) → List Span1 → List Span1
-with_told scope q None ws = q
-with_told scope q (Some ts) ws = add_better scope q ts ws []
-
--- a region that is shown to lie in the function's stays; else other spans, as what guarded splits tell of their numbers, may take the place of those that are not shown to
--- lie there, where they are shown to do so
-pub record IsKept (scope : List Binding) (ws q r : List Span1) : Type 0 where
-  pub told : Option (List Span1)
-  pub is : r ≡ with_told scope q told ws
-  pub kept : are_inside scope q ws ≡ true → r ≡ q
-
-abbrev pub IsTold : List Binding → List Span1 → Option (List Span1) → List Span1 → Type 0
-IsTold scope ws None r = Unit {0}
-IsTold scope ws (Some q) r = IsKept scope ws q r
-
--- the region that is needed of a function over this region by these calls
-abbrev pub IsNeeded : List Binding → List SiteText → StoredText → List Extent → List Span1 → Type 0
-IsNeeded scope ss g es r = IsTold scope (map whole es) (needed_region scope ss g es) r

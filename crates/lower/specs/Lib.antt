@@ -10,6 +10,7 @@ pub mod Calls
 pub mod Faults
 pub mod Fetches
 pub mod Groups
+pub mod Guarded
 pub mod Heads
 pub mod Homes
 pub mod Held
@@ -32,4 +33,5 @@ pub mod Stored
 pub mod Taken
 pub mod Turned
 pub mod Uses
+pub mod Visited
 pub mod Windows

@@ -1,14 +1,16 @@
 //! What is needed of a function at a place: the calls there and inside of it, and their region.
 
-ghost use Rattle.std.specs.Prelude.{◌≡◌, [], IfOk, OnOk, map};
+ghost use Rattle.std.specs.Prelude.{◌≡◌, [], IfOk, OnOk, Some, map, slice_get};
 ghost use Rattle.algo.specs.View.{algorithm_of};
+ghost use Rattle.sched.specs.Skeleton.{nest_seen};
 ghost use Rattle.lower.specs.Bounded.{whole as whole_of};
 ghost use Rattle.lower.specs.Demanded as spec;
 ghost use Rattle.lower.specs.Groups.{root_of};
+ghost use Rattle.lower.specs.Guarded as guarded;
 ghost use Rattle.lower.specs.Homes.{host_seen};
 ghost use Rattle.lower.specs.Limited.{Gives, Tells};
-ghost use Rattle.lower.specs.Placed.{inner_seen};
-ghost use Rattle.lower.specs.Stored.{stored_of};
+ghost use Rattle.lower.specs.Placed.{inner_seen, later_seen};
+ghost use Rattle.lower.specs.Stored.{formula_of, stored_of};
 ghost use Rattle.lower.specs.Taken.{site_of, add_sites as add_sites_of};
 
 use crate::error::Stop;
@@ -19,12 +21,10 @@ use crate::inner::Inner;
 use crate::regions::{MOST_NUMBERS, whole_region};
 use crate::rounded::is_rounded;
 use crate::sliding::Later;
-use crate::spots::{
-    Host, Hosted, Spot, host_at, is_inside_spot, later_at, nests_at, root_at, scope_over,
-};
+use crate::spots::{Host, Hosted, Spot, host_at, is_inside_spot, scope_over};
 use algo::Algo;
 use lin::{Region, Scope, Span1, Sym};
-use sched::Extent;
+use sched::{Extent, Nest};
 use std::alloc::{AllocError, Global};
 
 // Adds the calls of a function in the nests of this one, if it is computed at the place or inside of it.
@@ -119,24 +119,41 @@ pub fn sites_at<'b, 'a>(
     Ok(sites)
 }
 
-// Over what the nests of a function among those computed inside go, or of the group's own.
+// What is held of the function of this number.
+#[tactic(auto, using(crate::proofs::Demands::region_found, crate::proofs::Demands::no_region))]
+fn region_in(alloc: Global, inners: &[Inner<'_>], number: usize) -> Result<Region, AllocError>
+    ensures { IfOk result (λ region. region ≡ guarded.region_in (slice_get (map inner_seen inners.now) number)) }
+{
+    match inners.get(number) {
+        Some(inner) => inner.region.copy(alloc),
+        None => Ok(Region::new(alloc)),
+    }
+}
+
+fn region_by(
+    alloc: Global,
+    group: &Root<'_>,
+    inners: &[Inner<'_>],
+    number: Option<usize>,
+) -> Result<Region, AllocError>
+    ensures { IfOk result (λ region. region ≡ guarded.region_by (root_of group.now) (map inner_seen inners.now) number) }
+{
+    match number {
+        None => whole_region(alloc, group.laid),
+        Some(number) => region_in(alloc, inners, number),
+    }
+}
+
+// Over what the nests of a host go. What is new ends as all of it does.
 fn region_over(
     alloc: Global,
     group: &Root<'_>,
     inners: &[Inner<'_>],
     host: Host,
-) -> Result<Region, AllocError> {
-    match host {
-        Host::Own => whole_region(alloc, group.laid),
-        Host::Inner(number) => match inners.get(number) {
-            Some(inner) => inner.region.copy(alloc),
-            None => Ok(Region::new(alloc)),
-        },
-        Host::Later(number) => match later_at(inners, number) {
-            Some(later) => later.region.copy(alloc),
-            None => Ok(Region::new(alloc)),
-        },
-    }
+) -> Result<Region, AllocError>
+    ensures { IfOk result (λ region. region ≡ guarded.region_over (root_of group.now) (map inner_seen inners.now) host) }
+{
+    region_by(alloc, group, inners, host.number())
 }
 
 // Adds the calls of a function in nests as guarded splits tell them.
@@ -145,13 +162,43 @@ fn add_told_sites(
     algo: &Algo,
     user: &Root<'_>,
     over: Over<'_>,
-    from: Sym,
+    nests: &[Nest],
     only: Option<usize>,
     callee: &str,
     sites: &mut Vec<Site>,
-) -> Result<(), Stop> {
-    let nests = told_nests(alloc, user, over, from)?;
-    add_sites(alloc, algo, user, over.scope, &nests, only, callee, sites)
+) -> Result<(), Stop>
+    ensures { Tells result (map site_of sites.new.items) (guarded.add_told_sites (algorithm_of algo.now) callee.now over.entry.from
+        (stored_of user.now.stored.now) (map formula_of user.now.formulas.now) over.entry.scope.now over.entry.region.now only
+        (map nest_seen nests.now) (map site_of sites.old.items)) }
+{
+    let told = told_nests(alloc, user, over, nests)?;
+    add_sites(alloc, algo, user, over.scope, &told, only, callee, sites)
+}
+
+// Of a function that is computed inside loops those in the nests over what is new, where their last block runs past the end of
+// what is needed.
+fn add_told_later(
+    alloc: Global,
+    algo: &Algo,
+    inner: &Inner<'_>,
+    later: &Later,
+    from: Sym,
+    callee: &str,
+    sites: &mut Vec<Site>,
+) -> Result<(), Stop>
+    ensures { Tells result (map site_of sites.new.items) (guarded.add_told_later (algorithm_of algo.now) callee.now from (inner_seen inner.now)
+        (Some (later_seen later.now)) (map site_of sites.old.items)) }
+{
+    if !is_rounded(&inner.root, later.dimension) {
+        return Ok(());
+    }
+    let over = Over {
+        scope: &later.scope,
+        region: &inner.region,
+        from,
+    };
+    let nests = &later.nests;
+    add_told_sites(alloc, algo, &inner.root, over, nests, None, callee, sites)
 }
 
 // The same of a function that is computed inside loops.
@@ -162,60 +209,115 @@ fn add_told_inner(
     from: Sym,
     callee: &str,
     sites: &mut Vec<Site>,
-) -> Result<(), Stop> {
+) -> Result<(), Stop>
+    ensures { Tells result (map site_of sites.new.items) (guarded.add_told_inner (algorithm_of algo.now) callee.now from (inner_seen inner.now)
+        (map site_of sites.old.items)) }
+{
     let over = Over {
         scope: &inner.scope,
-        nests: &inner.nests,
         region: &inner.region,
+        from,
     };
-    add_told_sites(alloc, algo, &inner.root, over, from, None, callee, sites)?;
+    let nests = &inner.nests;
+    add_told_sites(alloc, algo, &inner.root, over, nests, None, callee, sites)?;
     match &inner.later {
-        Some(later) if is_rounded(&inner.root, later.dimension) => {
-            let over = Over {
-                scope: &later.scope,
-                nests: &later.nests,
-                region: &later.region,
-            };
-            add_told_sites(alloc, algo, &inner.root, over, from, None, callee, sites)
-        }
-        _ => Ok(()),
+        Some(later) => add_told_later(alloc, algo, inner, later, from, callee, sites),
+        None => Ok(()),
     }
 }
 
-// The calls of a function at the place and inside of it, as guarded splits tell them; the symbols inside begin with `from`.
-fn told_sites_at(
+// The same, if it is computed at the place or inside of it.
+fn add_told_if(
     alloc: Global,
     algo: &Algo,
-    group: &Root<'_>,
-    inners: &[Inner<'_>],
+    is_inside: bool,
+    inner: &Inner<'_>,
+    from: Sym,
+    callee: &str,
+    sites: &mut Vec<Site>,
+) -> Result<(), Stop>
+    ensures { Tells result (map site_of sites.new.items) (guarded.add_told_if (algorithm_of algo.now) callee.now from is_inside (inner_seen inner.now)
+        (map site_of sites.old.items)) }
+{
+    if !is_inside {
+        return Ok(());
+    }
+    add_told_inner(alloc, algo, inner, from, callee, sites)
+}
+
+// Those of the functions from this number on.
+fn add_told_inside<'a>(
+    alloc: Global,
+    algo: &Algo,
+    inners: &[Inner<'a>],
     spot: Spot,
     from: Sym,
     callee: &str,
-) -> Result<Vec<Site>, Stop> {
+    number: usize,
+    rest: &[Inner<'a>],
+    sites: &mut Vec<Site>,
+) -> Result<(), Stop>
+    ensures { Tells result (map site_of sites.new.items) (guarded.add_told_inside (algorithm_of algo.now) callee.now from (map inner_seen inners.now)
+        spot number (map inner_seen rest.now) (map site_of sites.old.items)) }
+{
+    match rest {
+        [] => Ok(()),
+        [inner, others @ ..] => {
+            let Some(next) = number.checked_add(1) else {
+                return Err(Stop::Memory);
+            };
+            let is_here = is_inside_spot(inners, number, spot);
+            add_told_if(alloc, algo, is_here, inner, from, callee, sites)?;
+            add_told_inside(alloc, algo, inners, spot, from, callee, next, others, sites)
+        }
+    }
+}
+
+// The calls of a function in the nests of a host, or in that of one definition, as guarded splits tell them.
+fn told_host_sites(
+    alloc: Global,
+    algo: &Algo,
+    hosted: &Hosted<'_, '_>,
+    over: Over<'_>,
+    only: Option<usize>,
+    callee: &str,
+) -> Result<Vec<Site>, Stop>
+    ensures { Gives result (λ v. map site_of v.items) (guarded.add_told_sites (algorithm_of algo.now) callee.now over.entry.from
+        (host_seen hosted.now).function (host_seen hosted.now).formulas over.entry.scope.now over.entry.region.now only (host_seen hosted.now).nests []) }
+{
     let mut sites = Vec::new(alloc);
-    let host = root_at(group, inners, spot.host);
+    let Hosted { root, nests } = hosted;
+    add_told_sites(alloc, algo, root, over, nests, only, callee, &mut sites)?;
+    Ok(sites)
+}
+
+// The calls of a function at the place and inside of it, as guarded splits tell them; the symbols inside begin with `from`.
+fn told_sites_at<'a>(
+    alloc: Global,
+    algo: &Algo,
+    group: &Root<'a>,
+    inners: &[Inner<'a>],
+    spot: Spot,
+    from: Sym,
+    callee: &str,
+) -> Result<Vec<Site>, Stop>
+    ensures { Gives result (λ v. map site_of v.items) (guarded.told_sites_at (algorithm_of algo.now) callee.now from (root_of group.now)
+        (map inner_seen inners.now) spot) }
+{
+    let Some(hosted) = host_at(group, inners, spot.host) else {
+        return Err(Stop::Limit);
+    };
     let scope = scope_over(alloc, group, inners, spot.host)?;
     let region = region_over(alloc, group, inners, spot.host)?;
     let over = Over {
         scope: &scope,
-        nests: nests_at(group, inners, spot.host),
         region: &region,
-    };
-    add_told_sites(
-        alloc,
-        algo,
-        &host,
-        over,
         from,
-        spot.definition,
-        callee,
-        &mut sites,
+    };
+    let mut sites = told_host_sites(alloc, algo, &hosted, over, spot.definition, callee)?;
+    add_told_inside(
+        alloc, algo, inners, spot, from, callee, 0, inners, &mut sites,
     )?;
-    for (number, inner) in inners.iter().enumerate() {
-        if is_inside_spot(inners, number, spot) {
-            add_told_inner(alloc, algo, inner, from, callee, &mut sites)?;
-        }
-    }
     Ok(sites)
 }
 
@@ -376,63 +478,100 @@ fn chosen(
 }
 
 // What is needed of a function at a place, as guarded splits tell it.
-fn told_at(
+fn told_region<'a>(
     alloc: Global,
     algo: &Algo,
-    group: &Root<'_>,
-    inners: &[Inner<'_>],
+    group: &Root<'a>,
+    inners: &[Inner<'a>],
     root: &Root<'_>,
     spot: Spot,
     scope: &Scope,
-) -> Result<Region, Stop> {
+) -> Result<Region, Stop>
+    ensures { Gives result (λ region. region) (guarded.told_region (algorithm_of algo.now) (root_of group.now) (map inner_seen inners.now) spot
+        scope.now (stored_of root.now.stored.now) root.now.laid.now.region.items) }
+{
     let name = root.stored.subject.name;
     let sites = told_sites_at(alloc, algo, group, inners, spot, scope.len(), name.as_str())?;
     region_at(alloc, root, scope, &sites)
 }
 
-// A region, or, where it is not shown to lie in the function's, what guarded splits tell in its place.
-#[tactic(auto, using(crate::proofs::Demands::kept_is, crate::proofs::Demands::better_is))]
-fn kept_or_told(
+// The same; none where that is not told.
+fn told_or_none<'a>(
     alloc: Global,
     algo: &Algo,
-    group: &Root<'_>,
-    inners: &[Inner<'_>],
+    group: &Root<'a>,
+    inners: &[Inner<'a>],
+    root: &Root<'_>,
+    spot: Spot,
+    scope: &Scope,
+) -> Result<Option<Region>, AllocError>
+    ensures { IfOk result (λ told. told ≡ guarded.told_region (algorithm_of algo.now) (root_of group.now) (map inner_seen inners.now) spot
+        scope.now (stored_of root.now.stored.now) root.now.laid.now.region.items) }
+{
+    match told_region(alloc, algo, group, inners, root, spot, scope) {
+        Ok(told) => Ok(Some(told)),
+        Err(Stop::Limit) => Ok(None),
+        Err(Stop::Memory) => Err(AllocError),
+    }
+}
+
+// The region, or what is told in its place.
+fn with_told(
+    alloc: Global,
+    scope: &Scope,
+    region: Region,
+    told: &Option<Region>,
+    whole: &Region,
+) -> Result<Region, AllocError>
+    ensures { IfOk result (λ made. made ≡ guarded.with_told scope.now region told.now whole.now) }
+{
+    match told {
+        Some(told) => chosen(alloc, scope, &region, told, whole),
+        None => Ok(region),
+    }
+}
+
+// A region, or, where it is not shown to lie in the function's, what guarded splits tell in its place.
+fn kept_or_told<'a>(
+    alloc: Global,
+    algo: &Algo,
+    group: &Root<'a>,
+    inners: &[Inner<'a>],
     root: &Root<'_>,
     spot: Spot,
     scope: &Scope,
     region: Region,
-) -> Result<Region, Stop>
-    ensures { IfOk result (spec.IsKept scope.now (map whole_of root.now.laid.now.region.items) region) }
+) -> Result<Region, AllocError>
+    ensures { IfOk result (λ one. one ≡ guarded.kept scope.now (map whole_of root.now.laid.now.region.items) region (guarded.told_region
+        (algorithm_of algo.now) (root_of group.now) (map inner_seen inners.now) spot scope.now (stored_of root.now.stored.now)
+        root.now.laid.now.region.items)) }
 {
     let whole = whole_region(alloc, root.laid)?;
     if are_inside(alloc, scope, region.as_slice(), whole.as_slice())? {
         return Ok(region);
     }
-    match told_at(alloc, algo, group, inners, root, spot, scope) {
-        Ok(told) => Ok(chosen(alloc, scope, &region, &told, &whole)?),
-        Err(Stop::Limit) => Ok(region),
-        Err(Stop::Memory) => Err(Stop::Memory),
-    }
+    let told = told_or_none(alloc, algo, group, inners, root, spot, scope)?;
+    with_told(alloc, scope, region, &told, &whole)
 }
 
 /// What is needed of a function at a place. Where that is not shown to lie in the function's region, it is asked what guarded
 /// splits say of their numbers too.
-#[tactic(auto, using(crate::proofs::Demands::told_is, crate::proofs::Demands::told_none))]
-pub(crate) fn needed_at(
+pub(crate) fn needed_at<'a>(
     alloc: Global,
     algo: &Algo,
-    group: &Root<'_>,
-    inners: &[Inner<'_>],
+    group: &Root<'a>,
+    inners: &[Inner<'a>],
     root: &Root<'_>,
     spot: Spot,
     scope: &Scope,
     sites: &[Site],
 ) -> Result<Region, Stop>
-    ensures { IfOk result (spec.IsNeeded scope.now (map site_of sites.now) (stored_of root.now.stored.now) root.now.laid.now.region.items) }
+    ensures { Gives result (λ region. region) (guarded.needed_at (algorithm_of algo.now) (root_of group.now) (map inner_seen inners.now) spot
+        scope.now (map site_of sites.now) (stored_of root.now.stored.now) root.now.laid.now.region.items) }
 {
     match region_at(alloc, root, scope, sites) {
         Ok(region) => Ok(kept_or_told(alloc, algo, group, inners, root, spot, scope, region)?),
-        Err(Stop::Limit) => Ok(told_at(alloc, algo, group, inners, root, spot, scope)?),
+        Err(Stop::Limit) => told_region(alloc, algo, group, inners, root, spot, scope),
         Err(Stop::Memory) => Err(Stop::Memory),
     }
 }

@@ -1,39 +1,90 @@
 //! What a guarded split says of its loop's numbers, also where no guard has to stand for it.
 
+ghost use Rattle.std.specs.Prelude.{◌≡◌, ◌++◌, [], IfOk, OnOk, length, map};
+ghost use Rattle.std.specs.List.{list_any};
+ghost use Rattle.sched.specs.Skeleton.{nest_seen};
+ghost use Rattle.lower.specs.Around.{bind_steps as bound_by};
+ghost use Rattle.lower.specs.Guarded as spec;
+ghost use Rattle.lower.specs.Limited.{Gives, Tells};
+ghost use Rattle.lower.specs.Stored.{stored_of};
+
 use crate::error::Stop;
 use crate::fetching::Root;
 use crate::forms::{MOST_FORMS, two_forms};
-use crate::renaming::{Renaming, own_names, renamed, renamed_steps};
 use crate::scopes::bind_steps;
-use crate::standing::all_limited;
-use crate::telling::told_span;
-use lin::{Lin, Region, Scope, Sym};
+use crate::standing::{all_limited, summed};
+use crate::telling::told_forms;
+use lin::{Forms, Lin, Multiple, Region, Scope, Span1, Sym};
 use plan::Pick;
 use sched::{Nest, Split, Step, Tail};
 use std::alloc::{AllocError, Global};
 use tree::token::Name;
 
-/// The nests of a function over a region, and what stands around them.
+/// Over what the nests of a function go, and what stands around them.
 #[derive(Clone, Copy, Drop)]
 pub(crate) struct Over<'b> {
     pub scope: &'b Scope,
-    pub nests: &'b [Nest],
     pub region: &'b Region,
+    /// The first symbol that stands inside of the place for which the nests are asked.
+    pub from: Sym,
 }
 
-/// A nest in which positions are told to be at most the last numbers of their loops.
+/// The steps of a nest, in which positions are told to be at most the last numbers of their loops.
 #[derive(Drop)]
-struct Told {
-    steps: Vec<Step>,
-    /// The first symbol that stands inside of the place for which the nest is asked.
-    from: Sym,
-    next: Sym,
+pub(crate) struct Told {
+    pub steps: Vec<Step>,
+    pub next: Sym,
 }
 
 // ---- the last number
 
-fn is_guarded(cuts: &[Split], variable: &Name) -> bool {
-    cuts.iter().any(|cut| cut.tail == Tail::Guard && cut.whole.as_str() == variable.as_str())
+// Whether the split is one of the variable's loop with `guard`.
+fn is_guarding(cut: &Split, variable: &Name) -> bool
+    ensures { result ≡ spec.is_guarding variable.now cut.now }
+{
+    match cut.tail {
+        Tail::Guard => cut.whole.as_str() == variable.as_str(),
+        Tail::Roundup | Tail::Shift => false,
+    }
+}
+
+fn is_guarded(cuts: &[Split], variable: &Name) -> bool
+    ensures { result ≡ list_any (spec.is_guarding variable.now) cuts.now }
+{
+    cuts.iter().any(|cut| is_guarding(cut, variable))
+}
+
+// The form where there is one alone.
+fn only(alloc: Global, forms: &[Lin]) -> Result<Option<Lin>, AllocError>
+    ensures { IfOk result (λ form. form ≡ spec.only forms.now) }
+{
+    match forms {
+        [form] => Ok(Some(form.copy(alloc)?)),
+        [] | [_, _, ..] => Ok(None),
+    }
+}
+
+// The form that bounds show to be the last number of a span; none where it is not one.
+fn last_of(alloc: Global, scope: &Scope, span: &Span1) -> Result<Option<Lin>, AllocError>
+    ensures { IfOk result (λ form. form ≡ spec.last_of scope.now span.now) }
+{
+    let upper = told_forms(alloc, scope, &span.upper, Pick::Min)?;
+    only(alloc, upper.as_slice())
+}
+
+fn last_if(
+    alloc: Global,
+    is_guarded: bool,
+    scope: &Scope,
+    span: &Span1,
+) -> Result<Option<Lin>, AllocError>
+    ensures { IfOk result (λ form. form ≡ spec.last_if is_guarded scope.now span.now) }
+{
+    if is_guarded {
+        last_of(alloc, scope, span)
+    } else {
+        Ok(None)
+    }
 }
 
 // The last number of a dimension whose loop is split with `guard`; none where that is not one form.
@@ -42,63 +93,95 @@ fn last_number(
     root: &Root<'_>,
     over: Over<'_>,
     dimension: usize,
-) -> Result<Option<Lin>, AllocError> {
-    let (Some(variable), Some(span)) = (
-        root.stored.subject.variables.get(dimension),
-        over.region.as_slice().get(dimension),
-    ) else {
+) -> Result<Option<Lin>, AllocError>
+    ensures { IfOk result (λ form. form ≡ spec.last_number (stored_of root.now.stored.now) over.entry.scope.now over.entry.region.now dimension) }
+{
+    let Some(variable) = root.stored.subject.variables.get(dimension) else {
         return Ok(None);
     };
-    if !is_guarded(&root.stored.placed.cuts, variable) {
+    let Some(span) = over.region.as_slice().get(dimension) else {
         return Ok(None);
-    }
-    let span = told_span(alloc, over.scope, span)?;
-    match span.upper.as_slice() {
-        [last] => Ok(Some(last.copy(alloc)?)),
-        _ => Ok(None),
-    }
+    };
+    let is_guarded = is_guarded(&root.stored.placed.cuts, variable);
+    last_if(alloc, is_guarded, over.scope, span)
 }
 
 // ---- positions
 
 // Whether the step is the loop of this symbol, and has room for one more upper form.
-fn is_open_loop(step: &Step, of: Sym) -> bool {
+fn is_open_loop(step: &Step, of: Sym) -> bool
+    ensures { result ≡ spec.is_open_loop of step.now }
+{
     match step {
         Step::Turns { symbol, span, .. } => {
             *symbol == of && span.upper.as_slice().len() < MOST_FORMS
         }
-        _ => false,
+        Step::Named { .. } | Step::Tested { .. } => false,
     }
 }
 
-impl Told {
-    // The last symbol of the form, where it is that of a loop of the nest and counts once.
-    fn innermost(&self, form: &Lin) -> Option<Sym> {
-        let term = form.terms().last()?;
-        let is_loop = self
-            .steps
-            .iter()
-            .any(|step| is_open_loop(step, term.symbol));
-        if term.factor == 1 && is_loop {
-            Some(term.symbol)
-        } else {
-            None
-        }
-    }
+fn has_open_loop(steps: &[Step], of: Sym) -> bool
+    ensures { result ≡ list_any (spec.is_open_loop of) steps.now }
+{
+    steps.iter().any(|step| is_open_loop(step, of))
+}
 
-    // A further upper form of the innermost loop.
-    fn limit(&mut self, alloc: Global, symbol: Sym, form: &Lin, last: &Lin) -> Result<(), Stop> {
-        let rest = form.without(alloc, symbol)?;
-        let limit = last.plus_multiple(alloc, -1, &rest)?;
-        self.steps = all_limited(alloc, &self.steps, symbol, &limit)?;
-        Ok(())
+// The symbol of the term, where it is that of such a loop and counts once.
+fn open_term(steps: &[Step], term: &Multiple) -> Option<Sym>
+    ensures { result ≡ spec.open_term steps.now term.now }
+{
+    if term.factor == 1 && has_open_loop(steps, term.symbol) {
+        Some(term.symbol)
+    } else {
+        None
+    }
+}
+
+// The last symbol of the form, where it is that of such a loop and counts once.
+fn innermost(steps: &[Step], form: &Lin) -> Option<Sym>
+    ensures { result ≡ spec.innermost steps.now form.now }
+{
+    match form.terms().last() {
+        Some(term) => open_term(steps, term),
+        None => None,
+    }
+}
+
+fn is_from(terms: &[Multiple], from: Sym) -> bool
+    ensures { result ≡ list_any (spec.is_from from) terms.now }
+{
+    terms.iter().any(|term| term.symbol >= from)
+}
+
+// Whether the form has several symbols, and one that stands inside of the place.
+fn is_joined(form: &Lin, from: Sym) -> bool
+    ensures { result ≡ spec.is_joined from form.now }
+{
+    form.terms().len() > 1 && is_from(form.terms(), from)
+}
+
+impl Told {
+    // A further upper form of the loop.
+    fn keep_by_loop(&mut self, alloc: Global, of: Sym, form: &Lin, last: &Lin) -> Result<Lin, Stop>
+        ensures { Gives result (λ at. (at, spec.told_seen self.new)) (spec.keep_by_loop of form.now last.now (spec.told_seen self.old)) }
+    {
+        let rest = form.without(alloc, of)?;
+        let limit = summed(alloc, last, -1, &rest)?;
+        let at = form.copy(alloc)?;
+        self.steps = all_limited(alloc, &self.steps, of, &limit)?;
+        Ok(at)
     }
 
     // A symbol for the smaller of the position and the last number.
-    fn smaller(&mut self, alloc: Global, form: &Lin, last: &Lin) -> Result<Lin, AllocError> {
+    fn keep_by_let(&mut self, alloc: Global, form: &Lin, last: &Lin) -> Result<Lin, AllocError>
+        ensures { IfOk result (λ at. (at, spec.told_seen self.new) ≡ spec.keep_by_let form.now last.now (spec.told_seen self.old)) }
+    {
         let symbol = self.next;
-        self.next = symbol.saturating_add(1);
+        let Some(next) = symbol.checked_add(1) else {
+            return Err(AllocError);
+        };
         let forms = two_forms(alloc, form.copy(alloc)?, last.copy(alloc)?)?;
+        self.next = next;
         self.steps.push(Step::Named {
             symbol,
             pick: Pick::Min,
@@ -107,95 +190,196 @@ impl Told {
         Lin::symbol(alloc, symbol)
     }
 
-    // The position, at most the last number: by a further upper form of the innermost loop, or by a let. What stands outside of
-    // the place, or is a let already, stays as it is.
-    fn keep(&mut self, alloc: Global, form: &Lin, last: &Lin) -> Result<Lin, Stop> {
-        let is_inside = form.terms().iter().any(|term| term.symbol >= self.from);
-        if !is_inside || form.terms().len() < 2 {
+    // By a further upper form of the innermost loop, or by a let.
+    fn keep_by(
+        &mut self,
+        alloc: Global,
+        of: Option<Sym>,
+        form: &Lin,
+        last: &Lin,
+    ) -> Result<Lin, Stop>
+        ensures { Gives result (λ at. (at, spec.told_seen self.new)) (spec.keep_by of form.now last.now (spec.told_seen self.old)) }
+    {
+        match of {
+            Some(symbol) => self.keep_by_loop(alloc, symbol, form, last),
+            None => Ok(self.keep_by_let(alloc, form, last)?),
+        }
+    }
+
+    // The position, at most the last number. What stands outside of the place, or is a symbol alone, stays as it is.
+    fn keep(&mut self, alloc: Global, from: Sym, form: &Lin, last: &Lin) -> Result<Lin, Stop>
+        ensures { Gives result (λ at. (at, spec.told_seen self.new)) (spec.keep from form.now last.now (spec.told_seen self.old)) }
+    {
+        if !is_joined(form, from) {
             return Ok(form.copy(alloc)?);
         }
-        match self.innermost(form) {
-            Some(symbol) => {
-                self.limit(alloc, symbol, form, last)?;
-                Ok(form.copy(alloc)?)
-            }
-            None => Ok(self.smaller(alloc, form, last)?),
+        let of = innermost(&self.steps, form);
+        self.keep_by(alloc, of, form, last)
+    }
+
+    fn keep_if(
+        &mut self,
+        alloc: Global,
+        from: Sym,
+        form: &Lin,
+        last: &Option<Lin>,
+    ) -> Result<Lin, Stop>
+        ensures { Gives result (λ at. (at, spec.told_seen self.new)) (spec.keep_if from form.now last.now (spec.told_seen self.old)) }
+    {
+        match last {
+            Some(last) => self.keep(alloc, from, form, last),
+            None => Ok(form.copy(alloc)?),
+        }
+    }
+
+    // An index of a nest, of which the last number is this.
+    fn told_at(
+        &mut self,
+        alloc: Global,
+        from: Sym,
+        form: &Option<Lin>,
+        last: &Option<Lin>,
+    ) -> Result<Option<Lin>, Stop>
+        ensures { Gives result (λ at. (at, spec.told_seen self.new)) (spec.told_at from form.now last.now (spec.told_seen self.old)) }
+    {
+        match form {
+            Some(form) => Ok(Some(self.keep_if(alloc, from, form, last)?)),
+            None => Ok(None),
         }
     }
 }
 
 // ---- nests
 
+fn copied(alloc: Global, step: &Step) -> Result<Step, AllocError>
+    ensures { IfOk result (λ made. made ≡ step.now) }
+{
+    match step {
+        Step::Turns { symbol, span, kind } => Ok(Step::Turns {
+            symbol: *symbol,
+            span: span.copy(alloc)?,
+            kind: *kind,
+        }),
+        Step::Named {
+            symbol,
+            pick,
+            forms,
+        } => Ok(Step::Named {
+            symbol: *symbol,
+            pick: *pick,
+            forms: forms.copy(alloc)?,
+        }),
+        Step::Tested { low, high } => Ok(Step::Tested {
+            low: low.copy(alloc)?,
+            high: high.copy(alloc)?,
+        }),
+    }
+}
+
+// The steps behind others.
+fn add_copied(alloc: Global, steps: &[Step], made: &mut Vec<Step>) -> Result<(), AllocError>
+    ensures { OnOk result (made.new.items ≡ made.old.items ++ steps.now) }
+{
+    match steps {
+        [] => Ok(()),
+        [step, rest @ ..] => {
+            made.push(copied(alloc, step)?)?;
+            add_copied(alloc, rest, made)
+        }
+    }
+}
+
 // How many symbols there are up to those of a nest.
-fn count_of(alloc: Global, outer: &Scope, steps: &[Step]) -> Result<Sym, AllocError> {
+fn count_of(alloc: Global, outer: &Scope, steps: &[Step]) -> Result<Sym, AllocError>
+    ensures { IfOk result (λ count. count ≡ length (bound_by outer.now steps.now)) }
+{
     let mut scope = outer.copy(alloc)?;
     bind_steps(alloc, &mut scope, steps)?;
     Ok(scope.len())
 }
 
-// An index of a nest: its position, at most the last number where that is told.
-fn told_index(
+// The steps, in which no position is told yet.
+fn told_from(alloc: Global, outer: &Scope, nest: &[Step]) -> Result<Told, AllocError>
+    ensures { IfOk result (λ told. spec.told_seen told ≡ spec.told_from outer.now nest.now) }
+{
+    let next = count_of(alloc, outer, nest)?;
+    let mut steps = Vec::new(alloc);
+    add_copied(alloc, nest, &mut steps)?;
+    Ok(Told { steps, next })
+}
+
+// The indices of a nest from this dimension on, behind others.
+fn add_told(
     alloc: Global,
     root: &Root<'_>,
     over: Over<'_>,
     dimension: usize,
-    form: &Option<Lin>,
-    same: &[Renaming],
+    forms: &[Option<Lin>],
+    at: &mut Vec<Option<Lin>>,
     told: &mut Told,
-) -> Result<Option<Lin>, Stop> {
-    let last = last_number(alloc, root, over, dimension)?;
-    match (form, last) {
-        (Some(form), Some(last)) => Ok(Some(told.keep(alloc, form, &last)?)),
-        (Some(form), None) => Ok(Some(renamed(alloc, same, form)?)),
-        (None, _) => Ok(None),
+) -> Result<(), Stop>
+    ensures { Tells result (at.new.items, spec.told_seen told.new) (spec.add_told (stored_of root.now.stored.now) over.entry.scope.now
+        over.entry.region.now over.entry.from dimension forms.now at.old.items (spec.told_seen told.old)) }
+{
+    match forms {
+        [] => Ok(()),
+        [form, rest @ ..] => {
+            let Some(next) = dimension.checked_add(1) else {
+                return Err(Stop::Memory);
+            };
+            let last = last_number(alloc, root, over, dimension)?;
+            let index = told.told_at(alloc, over.from, form, &last)?;
+            at.push(index)?;
+            add_told(alloc, root, over, next, rest, at, told)
+        }
     }
 }
 
-// All indices of a nest.
-fn told_indices(
-    alloc: Global,
-    root: &Root<'_>,
-    over: Over<'_>,
-    nest: &Nest,
-    same: &[Renaming],
-    told: &mut Told,
-) -> Result<Vec<Option<Lin>>, Stop> {
+fn told_nest(alloc: Global, root: &Root<'_>, over: Over<'_>, nest: &Nest) -> Result<Nest, Stop>
+    ensures { Gives result nest_seen (spec.told_nest (stored_of root.now.stored.now) over.entry.scope.now over.entry.region.now over.entry.from
+        (nest_seen nest.now)) }
+{
+    let mut told = told_from(alloc, over.scope, &nest.steps)?;
     let mut at = Vec::new(alloc);
-    for (dimension, form) in nest.at.iter().enumerate() {
-        at.push(told_index(alloc, root, over, dimension, form, same, told)?)?;
-    }
-    Ok(at)
+    add_told(alloc, root, over, 0, &nest.at, &mut at, &mut told)?;
+    let Told { steps, .. } = told;
+    Ok(Nest { steps, at })
 }
 
-fn told_nest(
+// Those of some nests, behind others.
+#[tactic(auto, using(crate::proofs::Along::nest_pushed))]
+fn add_nests(
     alloc: Global,
     root: &Root<'_>,
     over: Over<'_>,
-    from: Sym,
-    nest: &Nest,
-) -> Result<Nest, Stop> {
-    let next = count_of(alloc, over.scope, &nest.steps)?;
-    let same = own_names(alloc, next)?;
-    let steps = renamed_steps(alloc, &same, &nest.steps)?;
-    let mut told = Told { steps, from, next };
-    let at = told_indices(alloc, root, over, nest, &same, &mut told)?;
-    Ok(Nest {
-        steps: told.steps,
-        at,
-    })
+    nests: &[Nest],
+    made: &mut Vec<Nest>,
+) -> Result<(), Stop>
+    ensures { Tells result (map nest_seen made.new.items) (spec.add_nests (stored_of root.now.stored.now) over.entry.scope.now over.entry.region.now
+        over.entry.from (map nest_seen nests.now) (map nest_seen made.old.items)) }
+{
+    match nests {
+        [] => Ok(()),
+        [nest, rest @ ..] => {
+            let told = told_nest(alloc, root, over, nest)?;
+            made.push(told)?;
+            add_nests(alloc, root, over, rest, made)
+        }
+    }
 }
 
 /// The nests of a function, in which each number of a loop that is split with `guard` is told to be at most the last one, also
-/// where the loop has so many numbers that each block is full. What stands outside of the symbol `from` stays as it is.
+/// where the loop has so many numbers that each block is full. What stands outside of the place stays as it is.
 pub(crate) fn told_nests(
     alloc: Global,
     root: &Root<'_>,
     over: Over<'_>,
-    from: Sym,
-) -> Result<Vec<Nest>, Stop> {
+    nests: &[Nest],
+) -> Result<Vec<Nest>, Stop>
+    ensures { Gives result (λ v. map nest_seen v.items) (spec.told_nests (stored_of root.now.stored.now) over.entry.scope.now over.entry.region.now
+        over.entry.from (map nest_seen nests.now)) }
+{
     let mut made = Vec::new(alloc);
-    for nest in over.nests {
-        made.push(told_nest(alloc, root, over, from, nest)?)?;
-    }
+    add_nests(alloc, root, over, nests, &mut made)?;
     Ok(made)
 }

@@ -3,6 +3,7 @@
 ghost use Rattle.lower.specs.Counted.{LinesAreCounted};
 ghost use Rattle.lower.specs.Held.{ArrivalsFit, FetchesHavePlaces, FetchesHoldCalls, InputHoldsCalls, NeedsHoldCalls, OutputHoldsExtents, RegionsHoldCalls, RegionsHoldOwnCalls};
 ghost use Rattle.lower.specs.Owning.{BlocksMakeUpRegions, NeedsNameOwners};
+ghost use Rattle.lower.specs.Visited.{ToldNestsComeToAll, ToldNumbersAreKept};
 
 /// The region that is needed of a stored function holds each point that a function which is declared later calls of it: by any of
 /// its definitions, at any store that its loops over its own region come to.
@@ -66,4 +67,15 @@ pub fn placed_lines_are_counted()
 /// turns of the loops inside of the place: as bounds tell it of the calls.
 pub fn needs_hold_calls()
     ensures { NeedsHoldCalls }
+{}
+
+/// The nest of a function in which positions are told to be at most the last numbers of the loops that are split with `guard` comes
+/// to all points to which the nest itself comes with such positions.
+pub fn told_nests_come_to_all()
+    ensures { ToldNestsComeToAll }
+{}
+
+/// Wherever that nest comes, each of these positions is at most the last number, where each loop of the nest has one.
+pub fn told_numbers_are_kept()
+    ensures { ToldNumbersAreKept }
 {}

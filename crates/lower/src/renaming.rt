@@ -238,19 +238,6 @@ pub(crate) fn renamed_step(alloc: Global, names: &[Renaming], step: &Step) -> Re
     }
 }
 
-/// The same of steps.
-pub(crate) fn renamed_steps(
-    alloc: Global,
-    names: &[Renaming],
-    steps: &[Step],
-) -> Result<Vec<Step>, Stop> {
-    let mut made = Vec::new(alloc);
-    for step in steps {
-        made.push(renamed_step(alloc, names, step)?)?;
-    }
-    Ok(made)
-}
-
 #[tactic(auto, using(crate::proofs::Renames::at_made))]
 fn renamed_at(alloc: Global, names: &[Renaming], form: &Option<Lin>) -> Result<Option<Lin>, Stop>
     ensures { IfOk result (λ made. spec.at_renamed (map spec.pair_of names.now) form.now ≡ Some made) }

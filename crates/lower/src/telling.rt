@@ -71,8 +71,13 @@ fn told_among(
     }
 }
 
-// The same; of one form it is that.
-fn told_forms(alloc: Global, scope: &Scope, forms: &Forms, pick: Pick) -> Result<Forms, AllocError>
+/// The same; of one form it is that.
+pub(crate) fn told_forms(
+    alloc: Global,
+    scope: &Scope,
+    forms: &Forms,
+    pick: Pick,
+) -> Result<Forms, AllocError>
     ensures { IfOk result (λ told. told ≡ parted.told_forms scope.now pick forms.now) }
 {
     match forms.as_slice() {
