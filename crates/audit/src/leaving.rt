@@ -9,7 +9,7 @@ ghost use Rattle.plan.specs.Lists.{list_statements};
 ghost use Rattle.plan.specs.Lines.{group_line};
 ghost use Rattle.soundness.specs.Outline.Flaws.{line_told};
 ghost use Rattle.soundness.specs.Outline.Refusals.Codes.{number_of};
-ghost use Rattle.audit.specs.Verdict.Left.{LeavesBuffer, all_leave, factors_fit, is_left, is_near_form, leaves, some_stores_to, stores_to};
+ghost use Rattle.audit.specs.Verdict.Left.{LeavesBuffer, all_leave, factors_fit, is_left, is_near_form, leaves, some_stores_at, stores_at};
 
 use lin::{Lin, Multiple};
 use plan::{Places, Plan, Stmt};
@@ -27,10 +27,10 @@ struct Target {
     coordinates: usize,
 }
 
-/// The store at a line of a statement that begins at a line before it or there, if it is one.
+/// The store at a line of a statement that begins at the line `begun`, if it is one.
 #[cycle(finding)]
 fn store_in(stmt: &Stmt, begun: u32, line: u32) -> Option<Target>
-    ensures { MatchOption result (Unit {0}) (λ t. stores_to t.buffer (statement_of stmt.now) ≡ true) }
+    ensures { MatchOption result (Unit {0}) (λ t. stores_at t.buffer t.coordinates line begun (statement_of stmt.now) ≡ true) }
 {
     match stmt {
         Stmt::Seq(all) => store_among(all, begun, line),
@@ -48,18 +48,22 @@ fn store_in(stmt: &Stmt, begun: u32, line: u32) -> Option<Target>
             buffer,
             coordinates,
             ..
-        } => Some(Target {
+        } if begun == line => Some(Target {
             buffer: *buffer,
             coordinates: coordinates.len(),
         }),
-        Stmt::Let { .. } | Stmt::Alloc { .. } | Stmt::Fetch { .. } | Stmt::Publish { .. } => None,
+        Stmt::Let { .. }
+        | Stmt::Alloc { .. }
+        | Stmt::Fetch { .. }
+        | Stmt::Store { .. }
+        | Stmt::Publish { .. } => None,
     }
 }
 
-/// The store at a line of a block's statements, of which the first begins at a line before it or there.
+/// The store at a line of a block's statements, of which the first begins at the line `begun`.
 #[cycle(finding)]
 fn store_among(all: &[Stmt], begun: u32, line: u32) -> Option<Target>
-    ensures { MatchOption result (Unit {0}) (λ t. some_stores_to t.buffer (block (list_statements all.now)) ≡ true) }
+    ensures { MatchOption result (Unit {0}) (λ t. some_stores_at t.buffer t.coordinates line begun (block (list_statements all.now)) ≡ true) }
 {
     let mut begin = begun;
     for stmt in all {

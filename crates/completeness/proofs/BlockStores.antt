@@ -64,7 +64,7 @@ use Rattle.completeness.proofs.StoreBounds.{Shows}
 use Rattle.completeness.specs.Parted.{KeepsInner}
 use Rattle.completeness.specs.Nested.{SayYes, TakeSplit}
 use Rattle.completeness.specs.Fitting.{IsSplitOnce}
-use Rattle.completeness.specs.Filled.{AreEndsShort, BlockedGroupsOweShown, IsShownElsewhere}
+use Rattle.completeness.specs.Filled.{AreEndsShort, BlockedGroupsOweShown, IsShownElsewhere, stores_to}
 use Rattle.completeness.proofs.NamedClaims.{alone_body}
 use Rattle.completeness.proofs.NestWalk.{LetsFirst}
 use Rattle.completeness.proofs.Joined.{claims_paired}
@@ -89,7 +89,7 @@ use Rattle.completeness.proofs.PlacedStores as stores_of
 use Rattle.soundness.proofs.Refines.{eq_refl}
 use Rattle.rules.specs.Widths.Widths.{wide_lines}
 use Rattle.tails.specs.Windows.Nests.{slid_nests}
-use Rattle.audit.specs.Verdict.Left.{stores_to, leaves}
+use Rattle.audit.specs.Verdict.Left.{leaves}
 use Rattle.lower.specs.Refused.{AreSmall, AreRegionsKept}
 use Rattle.completeness.proofs.TakenSites.{Has}
 use Rattle.completeness.proofs.WideLines.{IsWideStore, StoresIntoOwn, own_stores, wide_each}

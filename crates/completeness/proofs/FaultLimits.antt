@@ -4,7 +4,7 @@ use Rattle.std.specs.Prelude.{◌==◌, if◌then◌else◌, filter, nat_lt, sli
 use Rattle.std.proofs.lemmas.Bool.Decides.{nat_tests}
 use Rattle.std.specs.List.{AllByRecursion, list_all}
 use Rattle.meaning.specs.Algorithm.{Algorithm}
-use Rattle.plan.specs.Plan.{Group, Plan}
+use Rattle.plan.specs.Plan.{Group, Plan, Statement, Seq, For, Let, First, Guard, Alloc, Fetch, Store, Publish, Statements, Empty, Then}
 use Rattle.plan.specs.Lines.{lines, groups_lines, group_line, body_line}
 use Rattle.plan.specs.View.{plan_of}
 use Rattle.plan.specs.Certificate.Certificate.{Certificate, certificate_of}
@@ -22,12 +22,12 @@ use Rattle.soundness.proofs.Refines.{and_parts, eq_true}
 use Rattle.obligations.specs.Asked.{is_asked, flaw_of, told as told_obligation, first_unmet}
 use Rattle.obligations.specs.declared.context.judge.Part.{Part}
 use Rattle.audit.specs.Verdict.Faults.{IsFault, IsOfDebt}
-use Rattle.audit.specs.Verdict.Left.{stores_to, leaves}
+use Rattle.audit.specs.Verdict.Left.{leaves, on, stores_at, some_stores_at}
 use Rattle.completeness.specs.Laws.{AreLinesTold}
 use Rattle.completeness.proofs.TakenSites.{Has}
 use Rattle.completeness.proofs.WideLines.{wide_first, wide_within}
 use Rattle.completeness.specs.Told.{TellsOnlyLimits, FaultsAreLimits}
-use Rattle.completeness.specs.Filled.{IsShownElsewhere}
+use Rattle.completeness.specs.Filled.{IsShownElsewhere, stores_to, some_stores_to}
 use Rattle.completeness.proofs.LimitsAlone.{limits_alone}
 
 -- ---- what is owed
@@ -155,6 +155,33 @@ first_limit (x ∷ fs) f h e = code_of (first_of (x ∷ fs)) refl
     code_of : (o : Option Flaw) → first_of (x ∷ fs) ≡ o → f.code ≡ 14
     code_of o q = (let is : x.code ≡ f.code = cc e in sym is ∙ h.0)
 
+-- what stands at a line stands in the group
+either : (b c d e : Bool) → (b ≡ true → d ≡ true) → (c ≡ true → e ≡ true) → (b || c) ≡ true → (d || e) ≡ true
+either true c d e one two h = (let is = one refl in ap (λ v. v || e) is)
+either false c true e one two h = refl
+either false c false e one two h = two h
+
+module _ (b k line : ℕ) where
+  mutual
+    stored_somewhere : (s : Statement) (begun : ℕ) → stores_at b k line begun s ≡ true → stores_to b s ≡ true
+    stored_somewhere (Seq all) begun h = stored_among all begun h
+    stored_somewhere (For i x kind body) begun h = stored_somewhere body (on begun 1) h
+    stored_somewhere (Let i pick forms) begun h = absurd (cc h)
+    stored_somewhere (First i x y) begun h =
+        either (stores_at b k line (on begun 1) x) (stores_at b k line (on begun (lines x + 2)) y) (stores_to b x) (stores_to b y)
+        (stored_somewhere x (on begun 1)) (stored_somewhere y (on begun (lines x + 2))) h
+    stored_somewhere (Guard low high body) begun h = stored_somewhere body (on begun 1) h
+    stored_somewhere (Alloc m f places) begun h = absurd (cc h)
+    stored_somewhere (Fetch m g region) begun h = absurd (cc h)
+    stored_somewhere (Store m n at e) begun h = (and_parts (m == b) _ (and_parts (begun == line) _ h).1).0
+    stored_somewhere (Publish c) begun h = absurd (cc h)
+
+    stored_among : (all : Statements) (begun : ℕ) → some_stores_at b k line begun all ≡ true → some_stores_to b all ≡ true
+    stored_among Empty begun h = absurd (cc h)
+    stored_among (Then s rest) begun h =
+        either (stores_at b k line begun s) (some_stores_at b k line (on begun (lines s)) rest) (stores_to b s) (some_stores_to b rest)
+        (stored_somewhere s begun) (stored_among rest (on begun (lines s))) h
+
 module _ (a : Algorithm) (p : Plan) (c : Certificate) (t : TellsOnlyLimits a p c) (code line : ℕ) where
   -- what a line owes where a number may be too large is not told
   hidden : (d : IsOfDebt a p c code line) → IsShownElsewhere a p c d.number d.group → ⊥
@@ -176,7 +203,8 @@ module _ (a : Algorithm) (p : Plan) (c : Certificate) (t : TellsOnlyLimits a p c
             (subst (λ (i : ℕ). line_told (body_line p left.number) ≤ i) here from) (subst (λ (i : ℕ). i < line_told (group_line p (left.number + 1))) here to) in
             let some : Some left.group ≡ Some d.group = sym left.stands ∙ ap (slice_get p.groups) same_number ∙ d.stands in
             let same_group : left.group ≡ d.group = cc some in
-            let stores = ap (λ (y : Group). stores_to left.buffer y.body) (sym same_group) ∙ left.stores in
+            let there = stored_somewhere left.buffer left.coordinates line left.group.body (line_told (body_line p left.number)) left.stores in
+            let stores = ap (λ (y : Group). stores_to left.buffer y.body) (sym same_group) ∙ there in
             let leaving = ap (λ (y : Group). leaves left.buffer left.coordinates y.body) (sym same_group) ∙ left.leaves_all in
             let clash : false ≡ true = sym (s.stays left.buffer left.coordinates stores) ∙ leaving in
             absurd (cc clash))

@@ -9,7 +9,7 @@ use Rattle.soundness.specs.Origins.{Outline}
 use Rattle.rules.specs.Widths.Widths.{binders_after, line_unless, or_line, store_lines, block_store_lines, is_near_form, is_near_span, has_few_turns, is_i32, wide_lines, block_wide_lines}
 use Rattle.rules.specs.Widths.Widths.{told, first_told}
 use Rattle.completeness.specs.Owed.{EachLine, EachOf}
-use Rattle.audit.specs.Verdict.Left.{stores_to, some_stores_to}
+use Rattle.completeness.specs.Filled.{stores_to, some_stores_to}
 use Rattle.soundness.proofs.Refines.{eq_true}
 use Rattle.completeness.proofs.TakenSites.{Has}
 

@@ -1,7 +1,7 @@
 -- What the lines of a group owe the checker, of a function whose loops are split once.
-use Rattle.std.specs.Prelude.{◌≡◌, ◌⊎◌, ℕ, ◌||◌, true, false, List, Some, pos, ◌+ℤ◌, ◌≤ℤ◌, slice_get}
+use Rattle.std.specs.Prelude.{◌≡◌, ◌⊎◌, ℕ, ◌==◌, ◌||◌, Bool, true, false, List, Some, pos, ◌+ℤ◌, ◌≤ℤ◌, slice_get}
 use Rattle.std.specs.List.{AllByRecursion, list_all}
-use Rattle.plan.specs.Plan.{Group, Plan}
+use Rattle.plan.specs.Plan.{Group, Plan, Statement, Seq, For, Let, First, Guard, Alloc, Fetch, Store, Publish, Statements, Empty, Then}
 use Rattle.plan.specs.Lines.{body_line}
 use Rattle.plan.specs.View.{plan_of}
 use Rattle.plan.specs.Certificate.Certificate.{Certificate, certificate_of}
@@ -13,7 +13,7 @@ use Rattle.soundness.specs.Binders.View.{grid_binders}
 use Rattle.rules.specs.Bounding.Rules.{rules_of}
 use Rattle.rules.specs.Widths.Widths.{wide_lines}
 use Rattle.tails.specs.Windows.Nests.{slid_nests}
-use Rattle.audit.specs.Verdict.Left.{stores_to, leaves}
+use Rattle.audit.specs.Verdict.Left.{leaves}
 use Rattle.meaning.specs.Algorithm.{Algorithm}
 use Rattle.meaning.specs.Conditions.{IsAlgorithm}
 use Rattle.sched.specs.declared.schedule.Split.{Split}
@@ -47,6 +47,23 @@ AreEndsShort rs cs =
 -- asking for it came to an end, where indices of own calls may leave it; or, wherever it begins, each index of its definitions is simple
 abbrev pub IsNearOrSimple : Algorithm → Schedule → ℕ → StoredText → List FormulaText → LaidText → Type 0
 IsNearOrSimple a s n u fs r = (IsCloseRegion u r.region ⊎ (IsKept a s n u × IsNearRegion r.region × ArePlaced a u fs r)) ⊎ SimpleIndices fs
+
+abbrev mutual
+  -- some line stores into the buffer
+  pub stores_to : ℕ → Statement → Bool
+  stores_to b (Seq all) = some_stores_to b all
+  stores_to b (For i x kind body) = stores_to b body
+  stores_to b (Let i pick ls) = false
+  stores_to b (First i x y) = stores_to b x || stores_to b y
+  stores_to b (Guard low high body) = stores_to b body
+  stores_to b (Alloc m f places) = false
+  stores_to b (Fetch m g region) = false
+  stores_to b (Store m k at e) = m == b
+  stores_to b (Publish c) = false
+
+  pub some_stores_to : ℕ → Statements → Bool
+  some_stores_to b Empty = false
+  some_stores_to b (Then a rest) = stores_to b a || some_stores_to b rest
 
 -- of a group with a number that is not shown to be small: what its lines owe is shown but at such a line, of which that is told (K14); and none of its stores
 -- leaves its buffer, of which else what it owes is told before

@@ -7,7 +7,7 @@ use Rattle.lin.specs.declared.form.Multiple.{Multiple}
 use Rattle.plan.specs.declared.stmt.Places.{Places}
 use Rattle.plan.specs.declared.stmt.Places.TheVariants.{From, Folded}
 use Rattle.plan.specs.Plan.{Plan, Group, Statement, Seq, For, Let, First, Guard, Alloc, Fetch, Store, Publish, Statements, Empty, Then}
-use Rattle.plan.specs.Lines.{body_line, group_line}
+use Rattle.plan.specs.Lines.{body_line, group_line, lines}
 use Rattle.soundness.specs.Outline.Flaws.{line_told}
 
 -- the factors come to at most so much in all
@@ -41,25 +41,30 @@ abbrev mutual
   all_leave b n Empty = true
   all_leave b n (Then a rest) = leaves b n a && all_leave b n rest
 
-abbrev mutual
-  -- some line stores into the buffer
-  pub stores_to : ℕ → Statement → Bool
-  stores_to b (Seq all) = some_stores_to b all
-  stores_to b (For i x kind body) = stores_to b body
-  stores_to b (Let i pick ls) = false
-  stores_to b (First i x y) = stores_to b x || stores_to b y
-  stores_to b (Guard low high body) = stores_to b body
-  stores_to b (Alloc m f places) = false
-  stores_to b (Fetch m g region) = false
-  stores_to b (Store m k at e) = m == b
-  stores_to b (Publish c) = false
+-- a line so many lines on, as it is told
+abbrev pub on : ℕ → ℕ → ℕ
+on begun n = line_told (begun + n)
 
-  pub some_stores_to : ℕ → Statements → Bool
-  some_stores_to b Empty = false
-  some_stores_to b (Then a rest) = stores_to b a || some_stores_to b rest
+-- at this line stands a store into the buffer, with so many coordinates, where the statement begins at the line `begun`
+module _ (buffer coordinates line : ℕ) where
+  abbrev mutual
+    pub stores_at : ℕ → Statement → Bool
+    stores_at begun (Seq all) = some_stores_at begun all
+    stores_at begun (For i x kind body) = stores_at (on begun 1) body
+    stores_at begun (Let i pick ls) = false
+    stores_at begun (First i x y) = stores_at (on begun 1) x || stores_at (on begun (lines x + 2)) y
+    stores_at begun (Guard low high body) = stores_at (on begun 1) body
+    stores_at begun (Alloc m f places) = false
+    stores_at begun (Fetch m g region) = false
+    stores_at begun (Store m k at e) = (begun == line) && ((m == buffer) && (length at == coordinates))
+    stores_at begun (Publish c) = false
 
--- a line of a group that stores into some buffer, of which each line `alloc` there has so many dimensions, with places that begin near 0: such a store leaves it
--- where it goes past the i32 numbers. That it stands at this line, and has so many coordinates, is not said
+    pub some_stores_at : ℕ → Statements → Bool
+    some_stores_at begun Empty = false
+    some_stores_at begun (Then a rest) = stores_at begun a || some_stores_at (on begun (lines a)) rest
+
+-- at the line stands a store of a group, into a buffer of which each line `alloc` there has a dimension for each of the store's coordinates, with places that begin near 0:
+-- it leaves the buffer where it goes past the i32 numbers
 pub record LeavesBuffer (p : Plan) (line : ℕ) : Type 0 where
   pub number : ℕ
   pub group : Group
@@ -68,5 +73,5 @@ pub record LeavesBuffer (p : Plan) (line : ℕ) : Type 0 where
   pub to : line < line_told (group_line p (number + 1))
   pub buffer : ℕ
   pub coordinates : ℕ
-  pub stores : stores_to buffer group.body ≡ true
+  pub stores : stores_at buffer coordinates line (line_told (body_line p number)) group.body ≡ true
   pub leaves_all : leaves buffer coordinates group.body ≡ true
