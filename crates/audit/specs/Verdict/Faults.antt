@@ -54,7 +54,7 @@ module _ (a : Algorithm) (p : Plan) (c : Certificate) where
       → first_told (wide_lines (rules_of a p c m) (grid_binders h.grid) (body_line p m) h.body) ≡ Some wide → line < wide
 
   -- what some group's lines owe is not shown: it is the first of what they owe as lines, or of what they owe as claims; and no number up to its line may be too
-  -- large, since of such numbers nothing is shown, unless the group stores into a buffer that a store leaves which goes past the i32 numbers
+  -- large, since of such numbers nothing is shown, unless a store stands there that leaves its buffer where it goes past the i32 numbers
   pub record IsOfDebt (code line : ℕ) : Type 0 where
     pub number : ℕ
     pub group : Group
