@@ -49,7 +49,7 @@ last_alone x t e =
     let itself : (t.symbol == t.symbol) ≡ true = grind (arith, nat_tests) in
     subst (λ y. IsLast (y ∷ []) t) (sym e) (record { highest = (omega arith, tt); factor = rw itself (omega (arith, ints)) })
 
-last_is : (ts : List Multiple) (t : Multiple) → slice_get ts (length ts - 1) ≡ Some t → IsCanonical ts → IsLast ts t
+pub last_is : (ts : List Multiple) (t : Multiple) → slice_get ts (length ts - 1) ≡ Some t → IsCanonical ts → IsLast ts t
 last_is [] t e h = absurd (cc e)
 last_is (x ∷ []) t e h = last_alone x t (same x t e)
 last_is (x ∷ y ∷ zs) t e h =
@@ -58,7 +58,7 @@ last_is (x ∷ y ∷ zs) t e h =
     let here : slice_get (y ∷ zs) (length zs) ≡ Some t = sym (ap (slice_get (x ∷ y ∷ zs)) longer) ∙ e in
     last_more x y zs t h.1.0 (last_is (y ∷ zs) t (ap (slice_get (y ∷ zs)) shorter ∙ here) h.2)
 
-less_all : (i : ℕ) (ts : List Multiple) → AllByRecursion (λ u. u.symbol ≤ i) ts → AllByRecursion (λ u. u.symbol < i) (filter (λ t. not (t.symbol == i)) ts)
+pub less_all : (i : ℕ) (ts : List Multiple) → AllByRecursion (λ u. u.symbol ≤ i) ts → AllByRecursion (λ u. u.symbol < i) (filter (λ t. not (t.symbol == i)) ts)
 less_all i [] a = tt
 less_all i (t ∷ ts) a = of (t.symbol == i) refl (less_all i ts a.1)
   where
@@ -139,7 +139,7 @@ turn_here j x kind g steps s u z false m le rest = (z, m, rest)
 named_keep : (n i : ℕ) (s u : Symbols) (z : ℤ) → n ≤ i → Keeps (i + 1) (bind_symbol s i z true) u → Keeps n s u
 named_keep n i s u z le rest = keeps_on n (i + 1) s (bind_symbol s i z true) u (λ j lt. bind_keeps s i z true j (omega (arith, lt, le))) rest (omega (arith, le))
 
-leads_keep : (steps : List Step) (n : ℕ) (s u : Symbols) → AreRising n steps → Leads steps s u → Keeps n s u
+pub leads_keep : (steps : List Step) (n : ℕ) (s u : Symbols) → AreRising n steps → Leads steps s u → Keeps n s u
 leads_keep [] n s u r h = λ i lt. ap (λ (t : Symbols). t.value i) h
 leads_keep (Turns i x kind ∷ steps) n s u r h =
     let flag : Bool = int_le h.0 (largest s x.lower) in
@@ -172,25 +172,25 @@ module _ (i : ℕ) (g : Form) (u : Symbols) (stays : (v : Symbols) → Keeps i v
 -- ---- symbols of steps
 
 -- from n on, before m
-abbrev Rises : ℕ → List Step → ℕ → Type 0
+abbrev pub Rises : ℕ → List Step → ℕ → Type 0
 Rises n [] m = n ≤ m
 Rises n (Turns i x kind ∷ ss) m = (n ≤ i) × Rises (i + 1) ss m
 Rises n (Named i pick fs ∷ ss) m = (n ≤ i) × Rises (i + 1) ss m
 Rises n (Tested low high ∷ ss) m = Rises n ss m
 
-are_rising : (steps : List Step) (n m : ℕ) → Rises n steps m → AreRising n steps
+pub are_rising : (steps : List Step) (n m : ℕ) → Rises n steps m → AreRising n steps
 are_rising [] n m r = tt
 are_rising (Turns i x kind ∷ steps) n m r = (r.0, are_rising steps (i + 1) m r.1)
 are_rising (Named i pick fs ∷ steps) n m r = (r.0, are_rising steps (i + 1) m r.1)
 are_rising (Tested low high ∷ steps) n m r = are_rising steps n m r
 
-rises_limited : (steps : List Step) (n m i : ℕ) (g : Form) → Rises n steps m → Rises n (map (limited i g) steps) m
+pub rises_limited : (steps : List Step) (n m i : ℕ) (g : Form) → Rises n steps m → Rises n (map (limited i g) steps) m
 rises_limited [] n m i g r = r
 rises_limited (Turns j x kind ∷ steps) n m i g r = (r.0, rises_limited steps (j + 1) m i g r.1)
 rises_limited (Named j pick fs ∷ steps) n m i g r = (r.0, rises_limited steps (j + 1) m i g r.1)
 rises_limited (Tested low high ∷ steps) n m i g r = rises_limited steps n m i g r
 
-rises_more : (steps : List Step) (n m : ℕ) (pick : Pick) (fs : List Form) → Rises n steps m → Rises n (steps ++ Named m pick fs ∷ []) (m + 1)
+pub rises_more : (steps : List Step) (n m : ℕ) (pick : Pick) (fs : List Form) → Rises n steps m → Rises n (steps ++ Named m pick fs ∷ []) (m + 1)
 rises_more [] n m pick fs r = (r, omega arith)
 rises_more (Turns i x kind ∷ steps) n m pick fs r = (r.0, rises_more steps (i + 1) m pick fs r.1)
 rises_more (Named i p gs ∷ steps) n m pick fs r = (r.0, rises_more steps (i + 1) m pick fs r.1)
@@ -225,6 +225,23 @@ rises_to (Turns i x kind ∷ steps) n m r = let le = r.0 in let rest = rises_to 
 rises_to (Named i pick fs ∷ steps) n m r = let le = r.0 in let rest = rises_to steps (i + 1) m r.1 in omega (arith, le, rest)
 rises_to (Tested low high ∷ steps) n m r = rises_to steps n m r
 
+-- the loop of this symbol, whether it has room or not
+abbrev pub is_loop : ℕ → Step → Bool
+is_loop i (Turns j x kind) = j == i
+is_loop i (Named j pick fs) = false
+is_loop i (Tested low high) = false
+
+open_loop : (steps : List Step) (i : ℕ) → list_any (is_open_loop i) steps ≡ true → list_any (is_loop i) steps ≡ true
+open_loop [] i e = e
+open_loop (Turns j x kind ∷ steps) i e = of (j == i) (nat_lt (length x.upper) 4) e (λ k. open_loop steps i k)
+  where
+    of : (u v : Bool) → ((u && v) || list_any (is_open_loop i) steps) ≡ true → (list_any (is_open_loop i) steps ≡ true → list_any (is_loop i) steps ≡ true)
+        → (u || list_any (is_loop i) steps) ≡ true
+    of true v h rest = refl
+    of false v h rest = rest h
+open_loop (Named j pick fs ∷ steps) i e = open_loop steps i e
+open_loop (Tested low high ∷ steps) i e = open_loop steps i e
+
 -- a loop of the steps has a symbol from n on
 loop_behind : (steps : List Step) (n i : ℕ) → AreRising n steps → list_any (is_open_loop i) steps ≡ true → n ≤ i
 loop_behind [] n i r e = absurd (cc e)
@@ -238,19 +255,19 @@ loop_behind (Tested low high ∷ steps) n i r e = loop_behind steps n i r e
 
 -- ---- one position
 
-good_more : (n m : ℕ) (f : Form) → n ≤ m → Good n f → Good m f
+pub good_more : (n m : ℕ) (f : Form) → n ≤ m → Good n f → Good m f
 good_more n m f le h = record { below = all_weaker (λ t. t.symbol < n) (λ t. t.symbol < m) (λ t lt. omega (arith, lt, le)) f.terms h.below; canonical = h.canonical }
 
-good_value : (n : ℕ) (f : Form) (s t : Symbols) → Good n f → Keeps n s t → form_value f t ≡ form_value f s
+pub good_value : (n : ℕ) (f : Form) (s t : Symbols) → Good n f → Keeps n s t → form_value f t ≡ form_value f s
 good_value n f s t h k = kept_value f n s t k h.below
 
-one_times : (v : ℤ) → pos 1 *ℤ v ≡ v
+pub one_times : (v : ℤ) → pos 1 *ℤ v ≡ v
 one_times v = omega (arith, ints)
 
-minus_one : (v : ℤ) → negsuc 0 *ℤ v +ℤ v ≡ pos 0
+pub minus_one : (v : ℤ) → negsuc 0 *ℤ v +ℤ v ≡ pos 0
 minus_one v = omega (arith, ints)
 
-limit_is : (last f limit : Form) (i : ℕ) (v : Symbols) → combined last (negsuc 0) (without f i) ≡ Some limit → form_value limit v ≡ form_value last v +ℤ negsuc 0 *ℤ form_value (without f i) v
+pub limit_is : (last f limit : Form) (i : ℕ) (v : Symbols) → combined last (negsuc 0) (without f i) ≡ Some limit → form_value limit v ≡ form_value last v +ℤ negsuc 0 *ℤ form_value (without f i) v
 limit_is last f limit i v e = ap (λ (h : Form). form_value h v) (combined-means last (negsuc 0) (without f i) limit e).is ∙ value_of-plus_multiple last (negsuc 0) (without f i) v.value
 
 -- what a position comes to once it is kept
@@ -504,13 +521,14 @@ record Turn (s u : Symbols) (j : ℕ) (x : Span1) (b : Bool) (g : Form) (steps :
   most : b ≡ true → z ≤ℤ form_value g s
   rest : Leads steps (bind_symbol s j z (int_le z (largest s x.lower))) u
 
-turn_there : (j : ℕ) (x : Span1) (kind : Kind) (g : Form) (steps : List Step) (s u : Symbols) (b : Bool) → HasEnd x.upper → Leads (Turns j (limited_span b g x) kind ∷ steps) s u → Turn s u j x b g steps
+turn_there : (j : ℕ) (x : Span1) (kind : Kind) (g : Form) (steps : List Step) (s u : Symbols) (b : Bool) → HasEnd x.upper
+    → Leads (Turns j (limited_span b g x) kind ∷ steps) s u → Turn s u j x b g steps
 turn_there j x kind g steps s u true has h = let k = turn_less s x g h.0 has h.1 in record { z = h.0; is = k.0; most = λ e. k.1; rest = h.2 }
 turn_there j x kind g steps s u false has h = record { z = h.0; is = h.1; most = λ e. absurd (cc e); rest = h.2 }
 
 module _ (i : ℕ) (g : Form) (u : Symbols) where
   -- a way on which that loop goes no further than the form is one of the steps
-  limited_back : (steps : List Step) (s : Symbols) → AreEnded steps → Leads (map (limited i g) steps) s u → Leads steps s u
+  pub limited_back : (steps : List Step) (s : Symbols) → AreEnded steps → Leads (map (limited i g) steps) s u → Leads steps s u
   limited_back [] s e h = h
   limited_back (Turns j x kind ∷ steps) s e h =
       let t = turn_there j x kind g (map (limited i g) steps) s u (j == i) e.0 h in
@@ -519,8 +537,8 @@ module _ (i : ℕ) (g : Form) (u : Symbols) where
   limited_back (Tested low high ∷ steps) s e h = (h.0, limited_back steps s e h.1)
 
   -- and its number is at most that
-  limited_says : (stays : (v : Symbols) → Keeps i v u → form_value g v ≡ form_value g u) (steps : List Step) (n : ℕ) (s : Symbols) → AreEnded steps → AreRising n steps
-      → list_any (is_open_loop i) steps ≡ true → Leads (map (limited i g) steps) s u → u.value i ≤ℤ form_value g u
+  pub limited_says : (stays : (v : Symbols) → Keeps i v u → form_value g v ≡ form_value g u) (steps : List Step) (n : ℕ) (s : Symbols) → AreEnded steps → AreRising n steps
+      → list_any (is_loop i) steps ≡ true → Leads (map (limited i g) steps) s u → u.value i ≤ℤ form_value g u
   limited_says stays [] n s e r has h = absurd (cc has)
   limited_says stays (Turns j x kind ∷ steps) n s e r has h =
       let t = turn_there j x kind g (map (limited i g) steps) s u (j == i) e.0 h in
@@ -529,7 +547,7 @@ module _ (i : ℕ) (g : Form) (u : Symbols) where
       let back = limited_back steps after e.1 t.rest in
       let all = leads_keep (Turns j x kind ∷ steps) j s u (omega arith, r.1) (t.z, t.is, back) in
       let own : u.value j ≡ t.z = leads_keep steps (j + 1) after u r.1 back j (omega arith) ∙ bind_here s j t.z flag in
-      of (j == i) (nat_lt (length x.upper) 4) refl has
+      of (j == i) refl has
       (λ same_loop. let at : j ≡ i = grind (arith, nat_tests) in
       let is : u.value i ≡ t.z = ap u.value (sym at) ∙ own in
       let value = stays s (subst (λ (k : ℕ). Keeps k s u) at all) in
@@ -537,14 +555,14 @@ module _ (i : ℕ) (g : Form) (u : Symbols) where
       omega (arith, ints, most, is, value))
       (λ there. limited_says stays steps (j + 1) after e.1 r.1 there t.rest)
     where
-      of : (a b : Bool) → (j == i) ≡ a → ((a && b) || list_any (is_open_loop i) steps) ≡ true → ((j == i) ≡ true → u.value i ≤ℤ form_value g u)
-          → (list_any (is_open_loop i) steps ≡ true → u.value i ≤ℤ form_value g u) → u.value i ≤ℤ form_value g u
-      of true b e there here behind = here e
-      of false b e there here behind = behind there
+      of : (a : Bool) → (j == i) ≡ a → (a || list_any (is_loop i) steps) ≡ true → ((j == i) ≡ true → u.value i ≤ℤ form_value g u)
+          → (list_any (is_loop i) steps ≡ true → u.value i ≤ℤ form_value g u) → u.value i ≤ℤ form_value g u
+      of true e there here behind = here e
+      of false e there here behind = behind there
   limited_says stays (Named j pick fs ∷ steps) n s e r has h = limited_says stays steps (j + 1) (bind_symbol s j (picked pick fs s) true) e r.1 has h
   limited_says stays (Tested low high ∷ steps) n s e r has h = limited_says stays steps n s e r has h.1
 
-ended_limited : (steps : List Step) (i : ℕ) (g : Form) → AreEnded steps → AreEnded (map (limited i g) steps)
+pub ended_limited : (steps : List Step) (i : ℕ) (g : Form) → AreEnded steps → AreEnded (map (limited i g) steps)
 ended_limited [] i g e = tt
 ended_limited (Turns j x kind ∷ steps) i g e = (of (j == i), ended_limited steps i g e.1)
   where
@@ -558,7 +576,7 @@ ended_limited (Turns j x kind ∷ steps) i g e = (of (j == i), ended_limited ste
 ended_limited (Named j pick fs ∷ steps) i g e = ended_limited steps i g e
 ended_limited (Tested low high ∷ steps) i g e = ended_limited steps i g e
 
-ended_more : (steps : List Step) (i : ℕ) (pick : Pick) (fs : List Form) → AreEnded steps → AreEnded (steps ++ Named i pick fs ∷ [])
+pub ended_more : (steps : List Step) (i : ℕ) (pick : Pick) (fs : List Form) → AreEnded steps → AreEnded (steps ++ Named i pick fs ∷ [])
 ended_more [] i pick fs e = tt
 ended_more (Turns j x kind ∷ steps) i pick fs e = (e.0, ended_more steps i pick fs e.1)
 ended_more (Named j p gs ∷ steps) i pick fs e = ended_more steps i pick fs e
@@ -606,7 +624,7 @@ module _ (first : ℕ) (s : Symbols) (f : Form) (t : ToldText) (symbols : Rises 
           ended = ended_limited t.steps i limit ended;
           by = λ w l. (w, limited_back i limit w t.steps s ended l, λ j lt. refl);
           says = λ w l.
-              let most = limited_says i limit w (stays w) t.steps first s ended rise inner.there l in
+              let most = limited_says i limit w (stays w) t.steps first s ended rise (open_loop t.steps i inner.there) l in
               let value : form_value limit w ≡ form_value last w +ℤ negsuc 0 *ℤ form_value (without f i) w = limit_is last f limit i w e in
               let parts : form_value f w ≡ form_value (without f i) w +ℤ factor_of f.terms i *ℤ w.value i = (let k = sum_of-without i f.terms w.value in omega (arith, ints, k)) in
               let once : factor_of f.terms i *ℤ w.value i ≡ w.value i = ap (λ (k : ℤ). k *ℤ w.value i) inner.once ∙ one_times (w.value i) in

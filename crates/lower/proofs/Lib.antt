@@ -40,6 +40,7 @@ pub mod Reached
 pub mod Renames
 pub mod Rooted
 pub mod Rounds
+pub mod Settling
 pub mod Shown
 pub mod Sizes
 pub mod Stepping

@@ -1,19 +1,26 @@
 -- What a nest comes to in which positions are told to be at most last numbers: all that the nest itself comes to where they are, and nothing past them.
-use Rattle.std.specs.Prelude.{◌≡◌, ℕ, ◌+◌, ◌≤◌, ℤ, ◌≤ℤ◌, true, List, [], ◌∷◌, length, map, Option, Some, None, Contains}
+use Rattle.std.specs.Prelude.{◌≡◌, ◌≢◌, ℕ, ◌+◌, ◌==◌, ◌≤◌, ℤ, ◌≤ℤ◌, true, false, List, [], ◌∷◌, length, map, Option, Some, None, Contains}
 use Rattle.std.specs.List.{AllByRecursion}
 use Rattle.std.specs.Option.{option_map}
 use Rattle.lin.specs.Forms.{Form}
 use Rattle.lin.specs.declared.scope.Binding.{Binding}
 use Rattle.lin.specs.declared.span.Span1.{Span1}
 use Rattle.plan.specs.Symbols.{Symbols, form_value}
+use Rattle.sched.specs.declared.schedule.Split.{Split}
+use Rattle.sched.specs.declared.numbers.Numbers.{Numbers}
 use Rattle.sched.specs.declared.skeleton.Step.{Step}
 use Rattle.sched.specs.declared.skeleton.Step.TheVariants.{Turns, Named, Tested}
 use Rattle.sched.specs.Order.{Good}
 use Rattle.sched.specs.Skeleton.{NestText}
+use Rattle.sched.specs.Standing.{StandingText, form_named}
 use Rattle.sched.specs.Visits.{arrivals}
+use Rattle.lower.specs.declared.ends.Reach.{Reach}
+use Rattle.lower.specs.declared.standing.Run.{Run}
 use Rattle.lower.specs.Stored.{StoredText}
 use Rattle.lower.specs.Around.{bind_steps}
 use Rattle.lower.specs.Guarded.{is_joined, last_number, told_nest}
+use Rattle.lower.specs.Parted.{begun}
+use Rattle.lower.specs.Settled.{is_guarded, reach_named, turn_all}
 
 -- ---- nests
 
@@ -92,3 +99,33 @@ abbrev pub ToldNumbersAreKept : Type 0
 ToldNumbersAreKept =
     (g : StoredText) (scope : List Binding) (region : List Span1) (from : ℕ) (n m : NestText) → told_nest g scope region from n ≡ Some m → IsNested scope region n → AreEnded n.steps
     → (s u : Symbols) → Contains (arrivals m.steps s) u → AreKept g scope region from u 0 n.at m.at
+
+-- ---- nests whose loops are split
+
+-- lets name the symbols from this one on
+abbrev pub AreLets : ℕ → List Step → Type 0
+AreLets n [] = Unit {0}
+AreLets n (Named i pick fs ∷ ss) = (i ≡ n) × AreLets (n + 1) ss
+AreLets n (Turns i x kind ∷ ss) = ⊥
+AreLets n (Tested low high ∷ ss) = ⊥
+
+-- of these splits each of the loop of this name is a guarded one whose blocks may go past the last number, and no block of it is one number
+abbrev pub AreGuarded : List Numbers → List Split → List ℕ → Reach → List Split → Type 0
+AreGuarded ns all x r [] = Unit {0}
+AreGuarded ns all x r (c ∷ cs) = (c.whole ≡ x → (is_guarded ns all c r ≡ true) × ((c.factor == 1) ≡ false)) × AreGuarded ns all x r cs
+
+-- a loop of this name, which these splits take and none of these loops is, from and up to forms of the symbols before n; as are those of the other splits
+pub record IsGuardedLoop (ns : List Numbers) (hs : List Reach) (all : List Split) (rs : List Run) (n : ℕ) (x : List ℕ) (r : Reach) : Type 0 where
+  pub reached : reach_named hs x ≡ Some r
+  pub guarded : AreGuarded ns all x r all
+  pub ends : AllByRecursion (λ h. Good n h.low × Good n h.last) hs
+  pub taken : AllByRecursion (λ q. q.name ≢ x) rs
+  pub ended : AllByRecursion (λ q. HasEnd q.span.upper) rs
+
+-- wherever the loops, lets and guards come of a nest whose loops are split, the position in a loop that is split with `guard`, so that its blocks may go past the last
+-- number, is at most that number, where the first one is
+abbrev pub GuardedPositionsAreKept : Type 0
+GuardedPositionsAreKept =
+    (ns : List Numbers) (hs : List Reach) (all : List Split) (rs : List Run) (n : ℕ) (lets : List Step) (st : StandingText) → turn_all ns hs all rs (begun n lets) ≡ Some st
+    → AreLets n lets → (x : List ℕ) (r : Reach) → IsGuardedLoop ns hs all rs (n + length lets) x r → (f : Form) → form_named st.known x ≡ Some f
+    → (s u : Symbols) → Contains (arrivals st.steps s) u → form_value r.low u ≤ℤ form_value r.last u → form_value f u ≤ℤ form_value r.last u

@@ -3,7 +3,7 @@
 ghost use Rattle.lower.specs.Counted.{LinesAreCounted};
 ghost use Rattle.lower.specs.Held.{ArrivalsFit, FetchesHavePlaces, FetchesHoldCalls, InputHoldsCalls, NeedsHoldCalls, OutputHoldsExtents, RegionsHoldCalls, RegionsHoldOwnCalls};
 ghost use Rattle.lower.specs.Owning.{BlocksMakeUpRegions, NeedsNameOwners};
-ghost use Rattle.lower.specs.Visited.{ToldNestsComeToAll, ToldNumbersAreKept};
+ghost use Rattle.lower.specs.Visited.{GuardedPositionsAreKept, ToldNestsComeToAll, ToldNumbersAreKept};
 
 /// The region that is needed of a stored function holds each point that a function which is declared later calls of it: by any of
 /// its definitions, at any store that its loops over its own region come to.
@@ -78,4 +78,10 @@ pub fn told_nests_come_to_all()
 /// Wherever that nest comes, each of these positions is at most the last number, where each loop of the nest has one.
 pub fn told_numbers_are_kept()
     ensures { ToldNumbersAreKept }
+{}
+
+/// Wherever the loops, lets and guards come of a nest whose loops are split, the position in a loop that is split with `guard`, so that
+/// its blocks may go past the last number, is at most that number, where the first one is.
+pub fn guarded_positions_are_kept()
+    ensures { GuardedPositionsAreKept }
 {}
