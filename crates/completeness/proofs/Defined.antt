@@ -1,5 +1,5 @@
 -- What the nests of whole functions store are the algorithm's definitions, with the calls of unstored functions put in.
-use Rattle.std.proofs.Common.{◌≡◌, ℕ, ◌<◌, zero, suc, ◌+◌, Bool, true, false, ◌||◌, List, [], ◌∷◌, ◌++◌, length}
+use Rattle.std.proofs.Common.{◌≡◌, ℕ, ◌<◌, zero, suc, ◌+◌, Bool, true, false, ◌||◌, List, [], ◌∷◌, ◌++◌, length, ◌^◌}
 use Rattle.std.proofs.Common.{map, take, drop, Option, Some, None, refl, sym, ap, ◌∙◌, subst, arith}
 use Rattle.std.specs.Prelude.{◌==◌, ◌&&◌, not, pos, if◌then◌else◌, slice_get, MatchOption}
 use Rattle.std.specs.List.{AllByRecursion, list_all, list_any}
@@ -152,7 +152,7 @@ all_none (x ∷ xs) = (refl, all_none xs)
 -- ---- stores
 
 module _ (a : Algorithm) (well : IsAlgorithm a) (free : NamesNoLoad a) (p : Plan) (c : Certificate) (n : ℕ) (g : Group) (input : p.input.name ≡ a.input) (items : List CodeClaim)
-    (are : c.claims ≡ map claim_of items) (few : length items < 10000) (st : List Bool) (marks : stored_in a p ≡ st) (ms : Loads) (loads : AreClaims items ms) where
+    (are : c.claims ≡ map claim_of items) (few : length items < 2 ^ 64) (st : List Bool) (marks : stored_in a p ≡ st) (ms : Loads) (loads : AreClaims items ms) where
   abbrev Typed : Term → Type 0
   Typed d = (known : List ℕ → Bool) × (t : Ty) × HasType a known t d
 

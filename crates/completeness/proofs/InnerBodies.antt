@@ -1,5 +1,5 @@
 -- The groups of whatever plan `lower` makes, one by one: their entries, their bodies and claims, and which buffers they allocate.
-use Rattle.std.proofs.Common.{◌≡◌, ℕ, zero, suc, ◌+◌, Bool, true, false, List, [], ◌∷◌, ◌++◌, length, Option, Some, None, refl, sym, ap, subst, arith}
+use Rattle.std.proofs.Common.{◌≡◌, ℕ, zero, suc, ◌+◌, Bool, true, false, List, [], ◌∷◌, ◌++◌, length, map, take, Option, Some, None, refl, sym, ap, subst, arith}
 use Rattle.std.specs.Prelude.{if◌then◌else◌, slice_get}
 use Rattle.std.specs.List.{AllByRecursion}
 use Rattle.lin.specs.declared.scope.Binding.{Binding}
@@ -11,8 +11,8 @@ use Rattle.plan.specs.declared.certificate.cert.Need.{Need}
 use Rattle.plan.specs.declared.certificate.cert.Window.{Window}
 use Rattle.plan.specs.declared.stmt.Places.{Places}
 use Rattle.plan.specs.Plan.{Statement, Seq, For, Let, First, Guard, Alloc, Fetch, Store, Publish, Statements, Empty, Then, block}
-use Rattle.plan.specs.View.{statement_of}
-use Rattle.plan.specs.Lines.{block_lines}
+use Rattle.plan.specs.View.{group_of, statement_of}
+use Rattle.plan.specs.Lines.{block_lines, groups_lines}
 use Rattle.meaning.specs.Algorithm.{Algorithm}
 use Rattle.sched.specs.declared.skeleton.Step.{Step}
 use Rattle.sched.specs.declared.skeleton.Step.TheVariants.{Turns, Named, Tested}
@@ -25,7 +25,7 @@ use Rattle.lower.specs.Blocks.{dimensions_of, claimed_region}
 use Rattle.lower.specs.Bodies.{IsStore, AreNests, IsBodyWith}
 use Rattle.lower.specs.Fetches.{Entry, FetchText, Calls, AreFetched, fetched_groups, with_fetches}
 use Rattle.lower.specs.Placed.{PlacedText, numbered, picked, AreFetchedBy, with_fetched, begun, names_over, group_owner}
-use Rattle.lower.specs.Groups.{is_same, rooted_if, rooted, IsOverRegion, AreOverRegions, IsOver, AreMade, IsBodyBy, AreBodiesBy}
+use Rattle.lower.specs.Groups.{is_same, rooted_if, rooted, IsOverRegion, AreOverRegions, IsOver, AreMade, IsBodyBy, line_behind, AreBodiesBy}
 use Rattle.lower.proofs.Laying.{same}
 use Rattle.completeness.proofs.Bodies.{other_at}
 use Rattle.completeness.proofs.Unlike.{Numbered, first_numbered, second_numbered}
@@ -130,6 +130,59 @@ body_found a all full n c line (us ∷ placed) (e ∷ es) (p ∷ ps) claims need
       body = subst (λ (k : ℕ). IsBodyBy a all k r.first r.line r.next r.inners r.entry q r.claims r.needs r.windows) next r.body;
       numbered = r.numbered;
     }
+
+-- with the line of the group, where each has as many lines as are counted
+pub lined_found : (a : Algorithm) (all : List Entry) (full : List CodeClaim) (n c line : ℕ) (placed : List (List PlacedText)) (es : List Entry) (ps : List CodeGroup) (claims : List CodeClaim)
+    (needs : List Need) (windows : List Window) → AreBodiesBy a all n c line placed es ps claims needs windows → Numbered a all full c claims →
+    ((j : ℕ) (e : Entry) (us : List PlacedText) (q : CodeGroup) → slice_get es j ≡ Some e → slice_get placed j ≡ Some us → (m c line next : ℕ) (claims : List CodeClaim) (needs : List Need)
+    (windows : List Window) → IsBodyBy a all m c line next us e q claims needs windows → next ≡ line_behind line q) → (h : ℕ) (q : CodeGroup) → slice_get ps h ≡ Some q →
+    (b : IsBodyAt a all full n h placed es q) × (b.line ≡ line + groups_lines (take h (map group_of ps)))
+lined_found a all full n c line placed es [] claims needs windows made m ends h q at = absurd (cc at)
+lined_found a all full n c line [] [] (p ∷ ps) claims needs windows made m ends h q at = absurd made
+lined_found a all full n c line [] (e ∷ es) (p ∷ ps) claims needs windows made m ends h q at = absurd made
+lined_found a all full n c line (us ∷ placed) [] (p ∷ ps) claims needs windows made m ends h q at = absurd made
+lined_found a all full n c line (us ∷ placed) (e ∷ es) (p ∷ ps) claims needs windows made m ends zero q at =
+    let none : n ≡ n + 0 = omega arith in (
+      record {
+        entry = e;
+        at = refl;
+        inners = us;
+        inside = refl;
+        first = c;
+        line = line;
+        next = made.next;
+        claims = made.own_claims;
+        needs = made.own_needs;
+        windows = made.own_windows;
+        body = subst (λ (k : ℕ). IsBodyBy a all k c line made.next us e q made.own_claims made.own_needs made.own_windows) none
+            (subst (λ (w : CodeGroup). IsBodyBy a all n c line made.next us e w made.own_claims made.own_needs made.own_windows) (same p q at) made.here);
+        numbered = first_numbered a all full c claims made.own_claims made.other_claims made.claimed m;
+      },
+      omega arith,
+    )
+lined_found a all full n c line (us ∷ placed) (e ∷ es) (p ∷ ps) claims needs windows made m ends (suc h) q at =
+    let all_found = lined_found a all full (n + 1) (c + length made.own_claims) made.next placed es ps made.other_claims made.other_needs made.other_windows made.behind
+    (second_numbered a all full c claims made.own_claims made.other_claims made.claimed m) (λ j u vs w one two. ends (suc j) u vs w one two) h q at in
+    let r = all_found.0 in
+    let next : (n + 1) + h ≡ n + suc h = omega arith in
+    let here = ends 0 e us p refl refl n c line made.next made.own_claims made.own_needs made.own_windows made.here in
+    let rest = all_found.1 in (
+      record {
+        entry = r.entry;
+        at = r.at;
+        inners = r.inners;
+        inside = r.inside;
+        first = r.first;
+        line = r.line;
+        next = r.next;
+        claims = r.claims;
+        needs = r.needs;
+        windows = r.windows;
+        body = subst (λ (k : ℕ). IsBodyBy a all k r.first r.line r.next r.inners r.entry q r.claims r.needs r.windows) next r.body;
+        numbered = r.numbered;
+      },
+      omega (arith, here, rest),
+    )
 
 -- ---- what is fetched
 

@@ -1,5 +1,5 @@
 -- No line of whatever plan `lower` makes stores something else than its definition, where each function that the schedule stores is stored in the plan.
-use Rattle.std.proofs.Common.{◌≡◌, ℕ, ◌<◌, suc, ◌+◌, Bool, true, false, ◌||◌, List, [], ◌∷◌, ◌++◌, length, map, Some, refl, sym, ap, ◌∙◌, subst, arith}
+use Rattle.std.proofs.Common.{◌≡◌, ℕ, ◌<◌, suc, ◌+◌, Bool, true, false, ◌||◌, List, [], ◌∷◌, ◌++◌, length, map, Some, refl, sym, ap, ◌∙◌, subst, arith, ◌^◌}
 use Rattle.std.specs.Prelude.{◌-◌, string_bytes, slice_get}
 use Rattle.std.specs.List.{AllByRecursion}
 use Rattle.std.proofs.lemmas.List.{length-map}
@@ -95,6 +95,11 @@ module _ (a : Algorithm) (sch : Schedule) (l : Lowered) (well : IsAlgorithm a) (
 
   -- ---- groups
 
+  -- what is computed inside the loops of a group
+  pub known_inside : (h : ℕ) (e : Entry) (us : List PlacedText) → slice_get entries h ≡ Some e → slice_get placed h ≡ Some us → (k : ℕ) (i : PlacedText) → slice_get us k ≡ Some i → IsInner gs i
+  known_inside h e us at inside =
+      inners_at a gs (length others) entries others placed (λ k c t. entry_of false gs groups.placed.regions k c t) groups.placed.inside.found h e us at inside
+
   -- the group of a number: its entry, and its body with the functions inside its loops
   pub record IsGroupAt (h : ℕ) (q : CodeGroup) : Type 0 where
     pub body : IsBodyAt a entries items 0 h placed entries q
@@ -102,18 +107,23 @@ module _ (a : Algorithm) (sch : Schedule) (l : Lowered) (well : IsAlgorithm a) (
     pub over : IsOver body.entry q
     pub inside : (k : ℕ) (i : PlacedText) → slice_get body.inners k ≡ Some i → IsInner gs i
 
+  pub group_by : (h : ℕ) (q : CodeGroup) → slice_get ps h ≡ Some q → (b : IsBodyAt a entries items 0 h placed entries q) → (g : IsGroupAt h q) × (g.body ≡ b)
+  group_by h q at b =
+      let m = made_of entries 0 ps l.certificate.own.items groups.placed.over h q at in
+      let same_entry : m.entry ≡ b.entry = cc (m.at, b.at) in (
+        record {
+          body = b;
+          stored = among h b.entry b.at;
+          over = subst (λ (e : Entry). IsOver e q) same_entry m.over;
+          inside = known_inside h b.entry b.inners b.at b.inside;
+        },
+        refl,
+      )
+
   pub group_there : (h : ℕ) (q : CodeGroup) → slice_get ps h ≡ Some q → IsGroupAt h q
   group_there h q at =
-      let b = body_found a entries items 0 0 4 placed entries ps items l.certificate.needs.items l.certificate.windows.items groups.placed.inside.bodies
-      (λ j v e. let none : 0 + j ≡ j = omega arith in ap (slice_get items) none ∙ e) h q at in
-      let m = made_of entries 0 ps l.certificate.own.items groups.placed.over h q at in
-      let same_entry : m.entry ≡ b.entry = cc (m.at, b.at) in
-      record {
-        body = b;
-        stored = among h b.entry b.at;
-        over = subst (λ (e : Entry). IsOver e q) same_entry m.over;
-        inside = inners_at a gs (length others) entries others placed (λ k e t. entry_of false gs groups.placed.regions k e t) groups.placed.inside.found h b.entry b.inners b.at b.inside;
-      }
+      (group_by h q at (body_found a entries items 0 0 4 placed entries ps items l.certificate.needs.items l.certificate.windows.items groups.placed.inside.bodies
+      (λ j v e. let none : 0 + j ≡ j = omega arith in ap (slice_get items) none ∙ e) h q at)).0
 
   allots_at : (h : ℕ) (q : CodeGroup) → IsGroupAt h q → (m : ℕ) × Allots (IsStoredName gs) 0 (statement_of q.body) m
   allots_at h q g =
@@ -156,7 +166,7 @@ module _ (a : Algorithm) (sch : Schedule) (l : Lowered) (well : IsAlgorithm a) (
 
   -- ---- stores
 
-  module _ (free : NamesNoLoad a) (few : length items < 10000) (marked_so : stored_in a p ≡ st) (h : ℕ) (q : CodeGroup) where
+  module _ (free : NamesNoLoad a) (few : length items < 2 ^ 64) (marked_so : stored_in a p ≡ st) (h : ℕ) (q : CodeGroup) where
     abbrev input : p.input.name ≡ a.input
     input = groups.head.input.named
 
@@ -261,7 +271,7 @@ module _ (a : Algorithm) (sch : Schedule) (l : Lowered) (well : IsAlgorithm a) (
         of (i ∷ is) b inside laid m allotted =
             mixed_clear g.body.entry g.stored laid (i ∷ is) inside m allotted (0 + h) g.body.first g.body.line g.body.next g.body.claims g.body.needs g.body.windows b g.body.numbered
 
-  none_at : NamesNoLoad a → AreAllStored a sch p → length items < 10000 → (line : ℕ) → IsNotDefinitionAt a p c line → ⊥
+  none_at : NamesNoLoad a → AreAllStored a sch p → length items < 2 ^ 64 → (line : ℕ) → IsNotDefinitionAt a p c line → ⊥
   none_at free all few line h =
       let x = from_map group_of ps h.number h.group h.there in
       let q = x.0 in

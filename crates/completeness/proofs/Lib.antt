@@ -234,6 +234,8 @@ pub mod InnerLets
 pub mod InnerShapes
 pub mod WalkedStores
 pub mod WalkedScopes
+pub mod WalkedLines
 pub mod InnerBodies
 pub mod InnerStored
 pub mod InnerLines
+pub mod InnerPublished

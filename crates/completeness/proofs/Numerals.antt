@@ -1,5 +1,5 @@
 -- The name of a load tells its claim.
-use Rattle.std.proofs.Common.{◌≡◌, ℕ, zero, suc, ◌+◌, ◌-◌, ◌*◌, ◌/◌, ◌%◌, ◌<◌, ◌≤◌, Bool, true, false, List, [], ◌∷◌, Some, None, refl, sym, ap, ◌∙◌, subst, arith}
+use Rattle.std.proofs.Common.{◌≡◌, ℕ, zero, suc, ◌+◌, ◌-◌, ◌*◌, ◌^◌, ◌/◌, ◌%◌, ◌<◌, ◌≤◌, Bool, true, false, List, [], ◌∷◌, Some, None, refl, sym, ap, ◌∙◌, subst, arith}
 use Rattle.std.specs.Prelude.{◌==◌, ◌&&◌, not, nat_lt, if◌then◌else◌}
 use Rattle.std.specs.List.{list_all}
 use Rattle.std.specs.Fmt.{decimal, digit_glyph, digits_onto}
@@ -20,6 +20,15 @@ none_fits (suc k) n e = none_fits k (n / 10) (omega (arith, e))
 fits_more : (k j n : ℕ) → Fits k n → Fits (k + j) n
 fits_more zero j n h = subst (λ (i : ℕ). Fits i n) (let same : j ≡ 0 + j = omega arith in same) (none_fits j n h)
 fits_more (suc k) j n h = subst (λ (i : ℕ). Fits i n) (let same : suc (k + j) ≡ suc k + j = omega arith in same) (fits_more k j (n / 10) h)
+
+-- as many numbers as so many digits write
+abbrev tens : ℕ → ℕ
+tens zero = 1
+tens (suc k) = 10 * tens k
+
+fits_below : (k n : ℕ) → n < tens k → Fits k n
+fits_below zero n less = omega (arith, less)
+fits_below (suc k) n less = fits_below k (n / 10) (omega (arith, less))
 
 glyph_is : (d : ℕ) → d < 10 → digit_glyph false d ≡ 48 + d
 glyph_is d less = let test : nat_lt d 10 ≡ true = grind (arith, nat_tests) in ap (λ (b : Bool). if b then 48 + d else 87 + d) test
@@ -93,11 +102,14 @@ numeral_is ds h = subst (λ (xs : List ℕ). is_numeral xs ≡ true) (sym h.is) 
 decimal_onto : (n : ℕ) → decimal n ≡ digits_onto 64 10 false n []
 decimal_onto n = sym (digits_onto-nil 10 false n)
 
-pub load_tells : (n : ℕ) → n < 10000 → claim_of (64 ∷ decimal n) ≡ Some n
+pub load_tells : (n : ℕ) → n < 2 ^ 64 → claim_of (64 ∷ decimal n) ≡ Some n
 load_tells n few = of (n == 0) refl
   where
+    enough : tens 20 ≡ 100000000000000000000
+    enough = refl
+
     fits : Fits 64 n
-    fits = fits_more 4 60 n (omega (arith, few))
+    fits = fits_more 20 44 n (fits_below 20 n (let all = enough in omega (arith, few, all)))
 
     value : digits_after 0 (decimal n) ≡ n
     value = ap (digits_after 0) (decimal_onto n) ∙ after_digits 64 n [] fits

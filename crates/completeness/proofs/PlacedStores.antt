@@ -434,7 +434,8 @@ module _ (a : Algorithm) (sch : Schedule) (l : Lowered) (well : IsAlgorithm a) (
           (source_call a plan cert (O.source (name_by o x)) ≡ callable a a.functions x) × (O.source (name_by o x) ≡ Input → x ≡ a.input) × IsKind o (O.source (name_by o x))
       source_at x (Some c) e by can stays called_here back =
           let source : O.source (64 ∷ _) ≡ ByClaim c =
-          source_is a free plan cert n (group_of q) groups.head.input.named mine refl (few_claims a sch l well legal small kept all groups) [] tt c (slice_get_within mine c by.claim by.at) in
+          source_is a free plan cert n (group_of q) groups.head.input.named mine refl (let few = few_claims a sch l well legal small kept all groups in omega (arith, few)) [] tt c
+          (slice_get_within mine c by.claim by.at) in
           let claim : slice_get cert.claims c ≡ Some (claim_of by.claim) = at_map claim_of mine c by.claim by.at in
           let named : function_named a.functions (string_bytes by.claim.function) ≡ Some by.function = ap (function_named a.functions) by.named ∙ named_alike a.functions x ∙ by.known in (
             ap (source_call a plan cert) source ∙ ap (λ (o : Option Claim). call_of (function_named a.functions (claim_or_none o).function)) claim ∙ ap call_of named

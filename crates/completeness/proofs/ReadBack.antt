@@ -1,5 +1,5 @@
 -- What is stored reads as the definition: each load tells the function that it is of.
-use Rattle.std.proofs.Common.{◌≡◌, ℕ, ◌<◌, suc, Bool, true, false, List, [], ◌∷◌}
+use Rattle.std.proofs.Common.{◌≡◌, ℕ, ◌<◌, suc, Bool, true, false, List, [], ◌∷◌, ◌^◌}
 use Rattle.std.proofs.Common.{length, map, Option, Some, None, IsSome, refl, sym, ap, ◌∙◌, subst, inl, inr, arith}
 use Rattle.std.specs.Prelude.{nat_lt, if◌then◌else◌, string_bytes, slice_get}
 use Rattle.std.specs.List.{AllByRecursion}
@@ -131,7 +131,7 @@ module _ (P : List ℕ → ℕ → Type 0) where
       of false e = k
 
 module _ (a : Algorithm) (free : NamesNoLoad a) (p : Plan) (c : Certificate) (n : ℕ) (g : Group) (input : p.input.name ≡ a.input) (items : List CodeClaim) (are : c.claims ≡ map claim_of items)
-    (few : length items < 10000) (ms : Loads) (loads : AreClaims items ms) where
+    (few : length items < 2 ^ 64) (ms : Loads) (loads : AreClaims items ms) where
   abbrev count : ℕ
   count = length c.claims
 

@@ -246,7 +246,8 @@ module _ (a : Algorithm) (sch : Schedule) (l : Lowered) (well : IsAlgorithm a) (
     claim_known : (x : List ℕ) (s : Ty × ℕ) (m k : ℕ) → callable a a.functions x ≡ Some s → s.1 ≡ m → Holds x k →
         IsUnknownSource a p c (group_of q) outline lines (source_of p.input.name (length c.claims) (64 ∷ decimal k)) m → ⊥
     claim_known x s m k can count w wrong =
-        let source = source_is a free p c n (group_of q) groups.head.input.named ours refl (few_claims a sch l well legal small kept all groups) [] tt k (slice_get_within ours k w.claim w.at) in
+        let source = source_is a free p c n (group_of q) groups.head.input.named ours refl (let few = few_claims a sch l well legal small kept all groups in omega (arith, few)) [] tt k
+        (slice_get_within ours k w.claim w.at) in
         let claim : slice_get c.claims k ≡ Some (claim_of w.claim) = at_map claim_of ours k w.claim w.at in
         let by = subst (λ (y : Source). IsUnknownSource a p c (group_of q) outline lines y m) source wrong in
         let parts : parts_named a (string_bytes w.claim.function) ≡ Some (parts_of w.function) =

@@ -553,7 +553,8 @@ module _ (a : Algorithm) (sch : Schedule) (l : Lowered) (well : IsAlgorithm a) (
             BackIf a well flags_of place f at d x → Fine (O.source (name_by o x))
         source_fine x (Some c) e held_by can stays called back =
             let source : O.source (64 ∷ _) ≡ ByClaim c =
-            source_is a free plan cert n (group_of q) groups.head.input.named mine refl (few_claims a sch l well legal small kept all groups) [] tt c (slice_get_within mine c held_by.claim
+            source_is a free plan cert n (group_of q) groups.head.input.named mine refl (let few = few_claims a sch l well legal small kept all groups in omega (arith, few)) [] tt c
+            (slice_get_within mine c held_by.claim
             held_by.at) in
             subst Fine (sym source) (claim_fine x c (last_is d x c e))
         source_fine x None e held_by can stays called back = elim (callable_found a a.functions x can) [

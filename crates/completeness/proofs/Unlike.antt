@@ -1,5 +1,5 @@
 -- No line of whole functions stores something else than its definition.
-use Rattle.std.proofs.Common.{◌≡◌, ℕ, ◌<◌, zero, suc, ◌+◌, Bool, true, false, List, [], ◌∷◌}
+use Rattle.std.proofs.Common.{◌≡◌, ℕ, ◌<◌, zero, suc, ◌+◌, Bool, true, false, List, [], ◌∷◌, ◌^◌}
 use Rattle.std.proofs.Common.{◌++◌, length, map, take, Option, Some, None, refl, sym, ap, ◌∙◌, subst, inl, inr, arith}
 use Rattle.std.specs.Prelude.{slice_get, IsSomeAnd, MatchOption}
 use Rattle.std.specs.Option.{option_map}
@@ -188,7 +188,7 @@ some_and P None h = absurd h
 some_and P (Some x) h = (x, refl, h)
 
 module _ (a : Algorithm) (sch : Schedule) (l : Lowered) (well : IsAlgorithm a) (free : NamesNoLoad a) (input : (plan_of l.plan).input.name ≡ a.input)
-    (few : length l.certificate.claims.items < 10000) (marked : stored_in a (plan_of l.plan) ≡ flags (subjects a sch)) (entries : List Entry) where
+    (few : length l.certificate.claims.items < 2 ^ 64) (marked : stored_in a (plan_of l.plan) ≡ flags (subjects a sch)) (entries : List Entry) where
   abbrev items : List CodeClaim
   items = l.certificate.claims.items
 
@@ -308,7 +308,8 @@ module _ (a : Algorithm) (sch : Schedule) (l : Lowered) (well : IsAlgorithm a) (
       let b = placed_body a entries items 0 0 4 (stored_functions a sch) l.plan.groups.items items l.certificate.needs.items (groups.bodies all)
       (λ j v e. let none : 0 + j ≡ j = omega arith in ap (slice_get items) none ∙ e) h.number me.stored q me.is x.1 in
       let body = subst (λ (u : StoredText). HasBody a entries (0 + h.number) b.first_claim b.line u q b.claims b.needs) w.is b.body in
-      let clear = body_clear a sch l well free groups.head.input.named (few_claims a sch l well legal small kept all groups) (marks a sch l well legal small kept all groups) entries
+      let clear = body_clear a sch l well free groups.head.input.named (let few = few_claims a sch l well legal small kept all groups in omega (arith, few)) (marks a sch l well legal small
+      kept all groups) entries
       h.number q w.place w.function w.at (0 + h.number) b.first_claim b.line b.claims b.needs body b.numbered in
       let first : Group → Here = λ u. start (line_told (group_line p h.number)) u in
       let stands = subst (λ (u : Group). Inside (λ s here. (line_told here.line ≡ line) × StoresAnother a p (outline_of p c h.number u) s) u.body (first u)) x.2 h.stands in

@@ -1,5 +1,5 @@
 -- What is stored in a group in whose loops functions are computed is the algorithm's definition, whoever's nest it is.
-use Rattle.std.proofs.Common.{◌≡◌, ℕ, ◌<◌, zero, suc, ◌+◌, Bool, true, false, List, [], ◌∷◌, ◌++◌, length, take, drop, Option, Some, None, refl, sym, ap, ◌∙◌, subst, arith}
+use Rattle.std.proofs.Common.{◌≡◌, ℕ, ◌<◌, zero, suc, ◌+◌, Bool, true, false, List, [], ◌∷◌, ◌++◌, length, take, drop, Option, Some, None, refl, sym, ap, ◌∙◌, subst, arith, ◌^◌}
 use Rattle.std.specs.Prelude.{◌-◌}
 use Rattle.lin.specs.declared.span.Span1.{Span1}
 use Rattle.plan.specs.declared.stmt.Places.{Places}
@@ -229,7 +229,7 @@ module _ (P : ℕ → ℕ → Type 0) where
   value_is ps k b h e = value_has ps k None h (λ c q. absurd (cc q)) b e
 
 module _ (a : Algorithm) (sch : Schedule) (l : Lowered) (well : IsAlgorithm a) (free : NamesNoLoad a) (input : (plan_of l.plan).input.name ≡ a.input)
-    (few : length l.certificate.claims.items < 10000) (marked : stored_in a (plan_of l.plan) ≡ flags (subjects a sch)) (number : ℕ) (q : CodeGroup) (first : ℕ) (inners : List PlacedText) where
+    (few : length l.certificate.claims.items < 2 ^ 64) (marked : stored_in a (plan_of l.plan) ≡ flags (subjects a sch)) (number : ℕ) (q : CodeGroup) (first : ℕ) (inners : List PlacedText) where
   abbrev items : List CodeClaim
   items = l.certificate.claims.items
 

@@ -1,5 +1,5 @@
 -- What the checker asks of heads, names and stores, and that the plans that `lower` makes of whatever schedule have it: functions may be computed inside loops.
-use Rattle.std.specs.Prelude.{◌≡◌, ◌⊎◌, ℕ, ◌<◌, true, length, Some, slice_get}
+use Rattle.std.specs.Prelude.{◌≡◌, ◌⊎◌, ℕ, ◌^◌, ◌<◌, true, length, Some, slice_get}
 use Rattle.std.specs.List.{Any}
 use Rattle.lin.specs.Forms.{Form}
 use Rattle.meaning.specs.Algorithm.{Function, Algorithm}
@@ -16,7 +16,7 @@ use Rattle.validation.specs.Groups.Wrong.{IsNotDefinitionAt}
 use Rattle.validation.specs.Stored.Definitions.{is_stored}
 use Rattle.lower.specs.declared.lowering.Lowered.{Lowered}
 use Rattle.lower.specs.Groups.{AreGroupsMade}
-use Rattle.completeness.specs.Laws.{NamesNoLoad, IsUnknownInside}
+use Rattle.completeness.specs.Laws.{NamesNoLoad, IsUnknownInside, AreLinesTold, IsPublish}
 
 -- of the plan that is made of whatever schedule
 abbrev pub OfEachSchedule : (Algorithm → Schedule → Plan → Certificate → Type 0) → Type 0
@@ -30,10 +30,10 @@ HeadsStand = OfEachSchedule (λ a s p c. (line : ℕ) → ¬ FailsHead a p line)
 abbrev pub AreAllStored : Algorithm → Schedule → Plan → Type 0
 AreAllStored a s p = (k : ℕ) (f : Function) → slice_get a.functions k ≡ Some f → (subject_said a s f).is_stored ≡ true → is_stored f.name p ≡ true
 
--- where each function that the schedule stores is stored in the plan, no name reads as a load, and there are fewer than 10,000 claims, no line stores something else than its
+-- where each function that the schedule stores is stored in the plan, no name reads as a load, and there are fewer than 2^64 claims, no line stores something else than its
 -- definition (no K12)
 abbrev pub AllDefinitionsAreStored : Type 0
-AllDefinitionsAreStored = OfEachSchedule (λ a s p c. NamesNoLoad a → AreAllStored a s p → length c.claims < 10000 → (line : ℕ) → ¬ IsNotDefinitionAt a p c line)
+AllDefinitionsAreStored = OfEachSchedule (λ a s p c. NamesNoLoad a → AreAllStored a s p → length c.claims < 2 ^ 64 → (line : ℕ) → ¬ IsNotDefinitionAt a p c line)
 
 -- ---- names
 
@@ -61,3 +61,7 @@ NamesItselfAt p line = StandsIn p (λ n g s here. NamesItself s) line
 -- a line `for`, `let` or `guard` inside a group that binds no symbol which its own forms name binds none that is in scope, and its forms name symbols that are (no K2)
 abbrev pub BindingLinesAreKnown : Type 0
 BindingLinesAreKnown = OfEachSchedule (λ a s p c. (line : ℕ) → ¬ NamesItselfAt p line → ¬ IsUnknownInside IsBinding a p c line)
+
+-- nor does a line `publish` name what is unknown, where all lines can be told: its claim is known, stands at a line of the group, and is of the group's function (no K2)
+abbrev pub LastLinesAreKnown : Type 0
+LastLinesAreKnown = OfEachSchedule (λ a s p c. AreLinesTold p → (line : ℕ) → ¬ IsUnknownInside IsPublish a p c line)
