@@ -30,7 +30,7 @@ use Rattle.lower.proofs.Laying.{same}
 use Rattle.completeness.proofs.Bodies.{other_at}
 use Rattle.completeness.proofs.Unlike.{Numbered, first_numbered, second_numbered}
 use Rattle.completeness.proofs.Seats.{Allots, AllotAll, allots_joined}
-use Rattle.completeness.proofs.Walked.{AreSteps, group_done}
+use Rattle.completeness.proofs.Walked.{AreFine, AreSteps, group_done}
 use Rattle.completeness.proofs.WalkedSeats.{Allot, allot_each}
 use Rattle.completeness.proofs.InnerShapes.{IsEntryOf, IsInner}
 
@@ -270,12 +270,16 @@ module _ (P : List ℕ → Type 0) where
       (steps_allot k.head (block (Alloc 0 g.subject.name places ∷ with_fetches fs (nests ++ Publish claim ∷ []))) 0 m (1, (refl, refl, own), all))
 
 -- nothing is asked of steps
-pub every_step : (ss : List Step) → AllByRecursion (λ (s : Step). Unit {0}) ss
-every_step [] = tt
-every_step (s ∷ ss) = (tt, every_step ss)
+pub every_step : (f ss : List Step) → AreFine (λ f s. Unit {0}) f ss
+every_step f [] = tt
+every_step f (s ∷ ss) = (tt, every_step (f ++ s ∷ []) ss)
 
-pub all_steps : (i : PlacedText) → AreSteps (λ s. Unit {0}) (λ s. Unit {0}) i
-all_steps i = record { lets = every_step i.lets; nests = λ d n at. every_step n.steps; new = λ l e. tt; later = λ l e d n at. every_step n.steps }
+every_let : (ss : List Step) → AllByRecursion (λ (s : Step). Unit {0}) ss
+every_let [] = tt
+every_let (s ∷ ss) = (tt, every_let ss)
+
+pub all_steps : (i : PlacedText) → AreSteps (λ f s. Unit {0}) (λ s. Unit {0}) i
+all_steps i = record { lets = every_let i.lets; nests = λ d n at. every_step [] n.steps; later = λ l e d n at. every_step [] n.steps }
 
 -- each line of a body that allocates is of a stored function, and the buffers are numbered in their order
 pub body_allots : (a : Algorithm) (gs : List StoredText) (all : List Entry) (among : (k : ℕ) (e : Entry) → slice_get all k ≡ Some e → IsEntryOf gs e) (n c line next : ℕ) (inners : List
@@ -297,8 +301,8 @@ body_allots a gs all among n c line next (i ∷ is) e q claims needs windows own
     let inners = i ∷ is in
     let name : (j : ℕ) (u : PlacedText) → slice_get inners j ≡ Some u → IsStoredName gs u.function.subject.name =
     λ j u at. let w = inside j u at in (w.stored.place, w.entry.0, w.stored.at, ap (λ (g : StoredText). g.subject.name) (sym w.function)) in
-    let nests = group_done inners (λ s. Unit {0}) (λ s. Unit {0}) (λ o ns. Unit {0}) (Allot (IsStoredName gs)) (allot_each (IsStoredName gs) inners name) (λ j u at. all_steps u)
-    (length inners) (group_owner e (claimed_region (dimensions_of e.0 e.1.region k))) k.nests tt (λ d w at. every_step w.steps) (names_over k)
+    let nests = group_done inners (λ f s. Unit {0}) (λ s. Unit {0}) (λ o ns. Unit {0}) (Allot (IsStoredName gs)) (allot_each (IsStoredName gs) inners name) (λ j u at. all_steps u)
+    (length inners) (group_owner e (claimed_region (dimensions_of e.0 e.1.region k))) k.nests tt (λ d w at. every_step [] w.steps) (names_over k)
     (with_fetched b.fetches b.lines_of b.fetched (begun c line k)) b.done b.nests b.made in (
       b.done.buffer,
       with_allots (IsStoredName gs) e.0 k _ b.fetches b.nests _ (statement_of q.body) (own.place, e.0, own.at, refl) b.with n _ (picked b.called (numbered 0 all)) b.lines_of

@@ -236,10 +236,10 @@ module _ (a : Algorithm) (sch : Schedule) (l : Lowered) (well : IsAlgorithm a) (
         let names = names_own e.0.subject.variables bodies e.0.placed e.1.region k laid in
         let s0 = with_fetched b.fetches b.lines_of b.fetched (begun first line k) in
         let claim = b.done.claim - 1 in
-        let steps : (j : ℕ) (i : PlacedText) → slice_get inners j ≡ Some i → AreSteps (λ s. Unit {0}) IsNamed i =
-        λ j i at. record { lets = (known j i at).lets; nests = λ d w at. every_step w.steps; new = λ l e. tt; later = λ l e d w at. every_step w.steps } in
-        let nests : AreInScope (names_over k) s0 b.nests b.done = group_done inners (λ s. Unit {0}) IsNamed (λ o ns. Unit {0}) AreInScope (in_scope_each inners) steps (length inners)
-        (group_owner e (claimed_region (dimensions_of e.0 e.1.region k))) k.nests tt (λ d w at. every_step w.steps) (names_over k) s0 b.done b.nests b.made in
+        let steps : (j : ℕ) (i : PlacedText) → slice_get inners j ≡ Some i → AreSteps (λ f s. Unit {0}) IsNamed i =
+        λ j i at. record { lets = (known j i at).lets; nests = λ d w at. every_step [] w.steps; later = λ l e d w at. every_step [] w.steps } in
+        let nests : AreInScope (names_over k) s0 b.nests b.done = group_done inners (λ f s. Unit {0}) IsNamed (λ o ns. Unit {0}) (λ f. AreInScope) (in_scope_each inners) steps (length inners)
+        (group_owner e (claimed_region (dimensions_of e.0 e.1.region k))) k.nests tt (λ d w at. every_step [] w.steps) (names_over k) s0 b.done b.nests b.made in
         let code = block (Alloc 0 e.0.subject.name (own_places (dimensions_of e.0 e.1.region k)) ∷ with_fetches b.fetches (b.nests ++ Publish claim ∷ [])) in
         let inner : (us : List ℕ) → ((s : ℕ) → s < length k.grid + length k.head → Has us s) → ((s : ℕ) → Has us s → s < length k.grid + length k.head) → BindAll code us =
         λ us all below. (

@@ -254,11 +254,11 @@ module _ (a : Algorithm) (sch : Schedule) (l : Lowered) (well : IsAlgorithm a) (
       (b : IsMixedBody entries n first line next inners e claims needs windows (statement_of q.body)) →
       AreCounted P only_so (with_fetched b.fetches b.lines_of b.fetched (begun first line e.1.skeleton)) b.nests b.done
   counted_so P only_so e q inners known n first line next claims needs windows b =
-      let steps : (j : ℕ) (i : PlacedText) → slice_get inners j ≡ Some i → AreSteps (λ s. Unit {0}) IsNamed i =
-      λ j i at. record { lets = (known j i at).lets; nests = λ d w at. every_step w.steps; new = λ l e. tt; later = λ l e d w at. every_step w.steps } in
-      group_done inners (λ s. Unit {0}) IsNamed (λ o ns. Unit {0}) (Counted P only_so) (counted_each P only_so inners) steps (length inners)
+      let steps : (j : ℕ) (i : PlacedText) → slice_get inners j ≡ Some i → AreSteps (λ f s. Unit {0}) IsNamed i =
+      λ j i at. record { lets = (known j i at).lets; nests = λ d w at. every_step [] w.steps; later = λ l e d w at. every_step [] w.steps } in
+      group_done inners (λ f s. Unit {0}) IsNamed (λ o ns. Unit {0}) (Counted P only_so) (counted_each P only_so inners) steps (length inners)
       (group_owner e (claimed_region (dimensions_of e.0 e.1.region e.1.skeleton))) e.1.skeleton.nests tt
-      (λ d w at. every_step w.steps) (names_over e.1.skeleton) (with_fetched b.fetches b.lines_of b.fetched (begun first line e.1.skeleton)) b.done b.nests b.made
+      (λ d w at. every_step [] w.steps) (names_over e.1.skeleton) (with_fetched b.fetches b.lines_of b.fetched (begun first line e.1.skeleton)) b.done b.nests b.made
 
   -- the next group has the line behind all of these
   next_line : (j : ℕ) (e : Entry) (us : List PlacedText) (q : CodeGroup) → slice_get entries j ≡ Some e → slice_get all_placed j ≡ Some us → (m first line next : ℕ) (claims : List CodeClaim)

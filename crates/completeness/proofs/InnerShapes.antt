@@ -26,7 +26,8 @@ use Rattle.lower.specs.Computed.{IsComputed, AreComputedIf, AreFound, AreAllFoun
 use Rattle.headline.proofs.Lists.{parted as parted_at}
 use Rattle.shares.proofs.Groups.{push_each}
 use Rattle.lower.proofs.Laying.{bound, same}
-use Rattle.completeness.proofs.Standing.{HasShape}
+use Rattle.completeness.proofs.Standing.{HasShape, Rises}
+use Rattle.completeness.proofs.InnerRises.{loops_rise, nest_rises}
 use Rattle.completeness.proofs.InnerLets.{AreNamed, lets_named}
 
 -- ---- entries
@@ -59,9 +60,16 @@ entry_of b (g ∷ gs) (l ∷ ls) k e at = of (is_same g.subject.is_root b) g.for
 
 -- ---- nests
 
+-- the nest of the definition at its place, whose steps bind symbols one by one
+pub record IsNestAt (xs : List (List ℕ)) (bs : List BodyText) (d : ℕ) (n : NestText) : Type 0 where
+  pub shape : HasShape xs bs d n
+  pub from : ℕ
+  pub to : ℕ
+  pub rises : Rises from n.steps to
+
 -- each is the nest of the definition at its place
 abbrev pub HaveShapes : StoredText → List FormulaText → List NestText → Type 0
-HaveShapes g fs ns = (d : ℕ) (n : NestText) → slice_get ns d ≡ Some n → HasShape g.subject.variables (bodies_from g.changes 0 g.subject.reductions fs) d n
+HaveShapes g fs ns = (d : ℕ) (n : NestText) → slice_get ns d ≡ Some n → IsNestAt g.subject.variables (bodies_from g.changes 0 g.subject.reductions fs) d n
 
 -- what a function takes second
 abbrev Second : (A B C : Type 0) → (A → B → C) → Type 0
@@ -85,7 +93,7 @@ Counts = Given BegunText _ (λ (b : BegunText). b.blocks)
 
 -- of some of these definitions, from the one with this number on
 abbrev ShapesFrom : StoredText → List BodyText → ℕ → List NestText → Type 0
-ShapesFrom g all k ns = (d : ℕ) (n : NestText) → slice_get ns d ≡ Some n → HasShape g.subject.variables all (k + d) n
+ShapesFrom g all k ns = (d : ℕ) (n : NestText) → slice_get ns d ≡ Some n → IsNestAt g.subject.variables all (k + d) n
 
 -- these are the definitions from this number on
 abbrev BodiesFrom : List BodyText → ℕ → List BodyText → Type 0
@@ -100,16 +108,17 @@ module _ (g : StoredText) (all : List BodyText) where
 
   -- where no loop is split
   whole_shapes : (region : List Span1) (s k : ℕ) (bs : List BodyText) (before ns : List NestText) → BodiesFrom all k bs → length before ≡ k →
-      ((d : ℕ) (n : NestText) → slice_get before d ≡ Some n → HasShape g.subject.variables all d n) → add_nests g region s bs before ≡ Some ns →
-      (d : ℕ) (n : NestText) → slice_get ns d ≡ Some n → HasShape g.subject.variables all d n
+      ((d : ℕ) (n : NestText) → slice_get before d ≡ Some n → IsNestAt g.subject.variables all d n) → add_nests g region s bs before ≡ Some ns →
+      (d : ℕ) (n : NestText) → slice_get ns d ≡ Some n → IsNestAt g.subject.variables all d n
   whole_shapes region s k [] before ns there long h e d n at = h d n (ap (λ (ws : List NestText). slice_get ws d) (same before ns e) ∙ at)
   whole_shapes region s k (b ∷ bs) before ns there long h e d n at =
       let r = bound (all_runs region g.placed.loops b) (λ rs. add_nests g region s bs (before ++ nest_of g.subject.variables b s rs ∷ [])) ns e in
       let one : NestText = nest_of g.subject.variables b s r.value in
-      let here : HasShape g.subject.variables all (length before) one =
+      let shape : HasShape g.subject.variables all (length before) one =
       record { body = b; standing = stands g.subject.variables s r.value; at = ap (slice_get all) long ∙ first_body k b bs there; is = refl } in
+      let here : IsNestAt g.subject.variables all (length before) one = record { shape = shape; from = s; to = s + length r.value; rises = loops_rise s r.value } in
       let more : length (before ++ one ∷ []) ≡ k + 1 = one_more before one ∙ ap (λ (j : ℕ). j + 1) long in
-      whole_shapes region s (k + 1) bs (before ++ one ∷ []) ns (other_bodies k b bs there) more (push_each (HasShape g.subject.variables all) before one h here) r.comes d n at
+      whole_shapes region s (k + 1) bs (before ++ one ∷ []) ns (other_bodies k b bs there) more (push_each (IsNestAt g.subject.variables all) before one h here) r.comes d n at
     where
       one_more : (xs : List NestText) (x : NestText) → length (xs ++ x ∷ []) ≡ length xs + 1
       one_more [] x = refl
@@ -117,14 +126,16 @@ module _ (g : StoredText) (all : List BodyText) where
 
   -- where some are
   module _ (scope : List Binding) (region kept : List Span1) (blocks : Counts) where
-    parted_shape : (k : ℕ) (b : BodyText) (n : NestText) → slice_get all k ≡ Some b → nest_over g scope region kept blocks k b ≡ Some n → HasShape g.subject.variables all k n
+    parted_shape : (k : ℕ) (b : BodyText) (n : NestText) → slice_get all k ≡ Some b → nest_over g scope region kept blocks k b ≡ Some n → IsNestAt g.subject.variables all k n
     parted_shape k b n at e =
         let f = bound (frame_of g scope region kept blocks k) (λ f. nest_in g region (length scope) f.0 f.1 b) n e in
         let frame : FrameText = f.value.0 in
         let r = bound (parted.all_runs g.subject.variables region frame g.placed.loops b)
         (λ rs. turn_all frame.numbers frame.reaches (body_cuts g b) rs (begun (length scope) f.value.1) >>= λ st. Some (laid_nest g.subject.variables b st)) n f.comes in
         let t = bound (turn_all frame.numbers frame.reaches (body_cuts g b) r.value (begun (length scope) f.value.1)) (λ st. Some (laid_nest g.subject.variables b st)) n r.comes in
-        record { body = b; standing = t.value; at = at; is = sym (same (laid_nest g.subject.variables b t.value) n t.comes) }
+        let shape : HasShape g.subject.variables all k n = record { body = b; standing = t.value; at = at; is = sym (same (laid_nest g.subject.variables b t.value) n t.comes) } in
+        let up = nest_rises g scope region kept blocks k b n e in
+        record { shape = shape; from = length scope; to = up.0; rises = up.1 }
 
     parted_from : (k : ℕ) (bs : List BodyText) (ns : List NestText) → BodiesFrom all k bs → nests_from g scope region kept blocks k bs ≡ Some ns → ShapesFrom g all k ns
     parted_from k [] ns there e d n at = absurd (no (ap (λ (ws : List NestText). slice_get ws d) (same [] ns e) ∙ at))
@@ -138,10 +149,10 @@ module _ (g : StoredText) (all : List BodyText) where
         let here = parted_shape k b o.value (first_body k b bs there) o.is in
         subst (ShapesFrom g all k) (same (o.value ∷ r.value) ns r.comes) (of o.value r.value here rest) d n at
       where
-        of : (n : NestText) (others : List NestText) → HasShape g.subject.variables all k n → ShapesFrom g all (k + 1) others → ShapesFrom g all k (n ∷ others)
+        of : (n : NestText) (others : List NestText) → IsNestAt g.subject.variables all k n → ShapesFrom g all (k + 1) others → ShapesFrom g all k (n ∷ others)
         of n others here rest zero w at =
-            let none : k ≡ k + 0 = omega arith in subst (λ (j : ℕ). HasShape g.subject.variables all j w) none (subst (HasShape g.subject.variables all k) (same n w at) here)
-        of n others here rest (suc d) w at = (let next : (k + 1) + d ≡ k + suc d = omega arith in subst (λ (j : ℕ). HasShape g.subject.variables all j w) next (rest d w at))
+            let none : k ≡ k + 0 = omega arith in subst (λ (j : ℕ). IsNestAt g.subject.variables all j w) none (subst (IsNestAt g.subject.variables all k) (same n w at) here)
+        of n others here rest (suc d) w at = (let next : (k + 1) + d ≡ k + suc d = omega arith in subst (λ (j : ℕ). IsNestAt g.subject.variables all j w) next (rest d w at))
 
 module _ (g : StoredText) (fs : List FormulaText) where
   abbrev bodies : List BodyText
@@ -153,12 +164,12 @@ module _ (g : StoredText) (fs : List FormulaText) where
   parted_have : (scope : List Binding) (region kept : List Span1) (blocks : Counts) (ns : List NestText) → parted_nests g fs scope region kept blocks ≡ Some ns → HaveShapes g fs ns
   parted_have scope region kept blocks ns e d n at =
       let none : 0 + d ≡ d = omega arith in
-      subst (λ (j : ℕ). HasShape g.subject.variables bodies j n) none (parted_from g bodies scope region kept blocks 0 bodies ns all_bodies e d n at)
+      subst (λ (j : ℕ). IsNestAt g.subject.variables bodies j n) none (parted_from g bodies scope region kept blocks 0 bodies ns all_bodies e d n at)
 
   by_cuts : (cs : List Split) (scope : List Binding) (region kept : List Span1) (ns : List NestText) → nests_by cs g fs scope region kept ≡ Some ns → HaveShapes g fs ns
   by_cuts [] scope region kept ns e = of (are_bounded scope region) e
     where
-      none_there : (d : ℕ) (n : NestText) → slice_get [] d ≡ Some n → HasShape g.subject.variables bodies d n
+      none_there : (d : ℕ) (n : NestText) → slice_get [] d ≡ Some n → IsNestAt g.subject.variables bodies d n
       none_there d n at = absurd (cc at)
 
       of : (b : Bool) → (if b then add_nests g region (length scope) bodies [] else None) ≡ Some ns → HaveShapes g fs ns

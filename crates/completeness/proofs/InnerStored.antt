@@ -39,15 +39,24 @@ use Rattle.lower.specs.Groups.{rooted, HasBody, HasGroups, IsOver, IsBodyBy}
 use Rattle.completeness.specs.Laws.{NamesNoLoad}
 use Rattle.completeness.specs.Inside.{AreAllStored, AllDefinitionsAreStored}
 use Rattle.completeness.proofs.Laid.{subjects, found}
-use Rattle.completeness.proofs.Standing.{nest_shape}
+use Rattle.completeness.proofs.Standing.{nest_shape, Rises}
+use Rattle.sched.specs.Order.{Ordered}
+use Rattle.sched.proofs.Arriving.{skeletal}
 use Rattle.completeness.proofs.Marks.{marked, any_at, both_ways}
 use Rattle.completeness.proofs.Unlike.{Clear, ClearAll, none_inside, joined_clear, Numbered, body_clear}
 use Rattle.completeness.proofs.Seats.{Allots, Agrees, AgreeAll, agree_first, allots_of, body_agrees}
 use Rattle.completeness.proofs.Walked.{group_done}
 use Rattle.completeness.proofs.WalkedStores as stores
 use Rattle.completeness.proofs.WalkedStores.{IsOwner, Right, right_each}
-use Rattle.completeness.proofs.InnerShapes.{IsEntryOf, entry_of, IsInner, inners_at}
+use Rattle.completeness.proofs.InnerShapes.{IsEntryOf, entry_of, HaveShapes, IsInner, inners_at}
 use Rattle.completeness.proofs.InnerBodies.{over_region, made_of, IsBodyAt, body_found, IsStoredName, every_step, all_steps, body_allots}
+
+-- steps in order bind symbols one by one
+pub ordered_rise : (n m : ℕ) (ss : List Step) → Ordered n ss m → Rises n ss m
+ordered_rise n m [] h = h
+ordered_rise n m (Turns i x kind ∷ ss) h = (h.0, ordered_rise (n + 1) m ss h.2)
+ordered_rise n m (Named i pick fs ∷ ss) h = (h.0, ordered_rise (n + 1) m ss h.3)
+ordered_rise n m (Tested low high ∷ ss) h = ordered_rise n m ss h
 
 -- ---- the body's own lines
 
@@ -218,6 +227,17 @@ module _ (a : Algorithm) (sch : Schedule) (l : Lowered) (well : IsAlgorithm a) (
         body_clear a sch l well free input few marked_so entries h q w.place w.function w.at n first line claims needs
         (subst (λ (u : StoredText). HasBody a entries n first line u q claims needs) w.is body) numbered_so
 
+    own_shapes : (e : Entry) → skeleton_of e.0 e.2 e.1.region ≡ Some e.1.skeleton → HaveShapes e.0 e.2 e.1.skeleton.nests
+    own_shapes e laid d w at =
+        let bodies = bodies_from e.0.changes 0 e.0.subject.reductions e.2 in
+        let order = (skeletal e.0.subject.variables bodies e.0.placed e.1.region e.1.skeleton laid).nests d w at in
+        record {
+          shape = nest_shape e.0.subject.variables bodies e.0.placed e.1.region e.1.skeleton laid d w at;
+          from = order.from;
+          to = order.to;
+          rises = ordered_rise order.from order.to w.steps order.steps;
+        }
+
     -- a group in whose loops some are
     mixed_clear : (e : Entry) → IsEntryOf gs e → skeleton_of e.0 e.2 e.1.region ≡ Some e.1.skeleton → (inners : List PlacedText) → ((k : ℕ) (i : PlacedText) → slice_get inners k ≡ Some i →
         IsInner gs i) →
@@ -235,10 +255,10 @@ module _ (a : Algorithm) (sch : Schedule) (l : Lowered) (well : IsAlgorithm a) (
           place = stored.place;
           at = stored.at;
           defined = stored.defined;
-          shapes = λ d w at. nest_shape e.0.subject.variables (bodies_from e.0.changes 0 e.0.subject.reductions e.2) e.0.placed e.1.region k laid d w at;
+          shapes = own_shapes e laid;
         } in
-        let right = group_done inners (λ x. Unit {0}) (λ x. Unit {0}) (IsOwner a sch l well free input few marked_so h q first inners) (Right a sch l well free input few marked_so h q first inners)
-        (right_each a sch l well free input few marked_so h q first inners inside) (λ j u at. all_steps u) (length inners) o k.nests owns (λ d w at. every_step w.steps) (names_over k) s0
+        let right = group_done inners (λ f x. Unit {0}) (λ x. Unit {0}) (IsOwner a sch l well free input few marked_so h q first inners) (Right a sch l well free input few marked_so h q first inners)
+        (right_each a sch l well free input few marked_so h q first inners inside) (λ j u at. all_steps u) (length inners) o k.nests owns (λ d w at. every_step [] w.steps) (names_over k) s0
         b.done b.nests b.made
         tt nests in
         let all_numbered : (j : ℕ) (w : Claim) → slice_get b.done.claims j ≡ Some w → slice_get c.claims (first + j) ≡ Some w = λ j w at.

@@ -231,11 +231,14 @@ pub mod Walked
 pub mod Seats
 pub mod WalkedSeats
 pub mod InnerLets
+pub mod InnerRises
 pub mod InnerShapes
 pub mod WalkedStores
 pub mod WalkedScopes
 pub mod WalkedLines
+pub mod WalkedTurns
 pub mod InnerBodies
 pub mod InnerStored
 pub mod InnerLines
 pub mod InnerPublished
+pub mod InnerChoices

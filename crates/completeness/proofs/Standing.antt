@@ -118,7 +118,7 @@ Rises n (Turns i x kind ∷ ss) m = (i ≡ n) × Rises (n + 1) ss m
 Rises n (Named i pick fs ∷ ss) m = (i ≡ n) × Rises (n + 1) ss m
 Rises n (Tested low high ∷ ss) m = Rises n ss m
 
-rises_joined : (n k m : ℕ) (a b : List Step) → Rises n a k → Rises k b m → Rises n (a ++ b) m
+pub rises_joined : (n k m : ℕ) (a b : List Step) → Rises n a k → Rises k b m → Rises n (a ++ b) m
 rises_joined n k m [] b h g = subst (λ (q : ℕ). Rises q b m) (sym h) g
 rises_joined n k m (Turns i x kind ∷ a) b h g = (h.0, rises_joined (n + 1) k m a b h.1 g)
 rises_joined n k m (Named i pick fs ∷ a) b h g = (h.0, rises_joined (n + 1) k m a b h.1 g)

@@ -49,7 +49,7 @@ module _ (P : Statement → Type 0) (only : (s : Statement) → P s → IsPublis
     pub clear : ClearAll P (block xs)
 
   abbrev pub Counted : Lines
-  Counted m p xs q = AreCounted p xs q
+  Counted f m p xs q = AreCounted p xs q
 
   nothing_more : (p : SoFar) → AreCounted p [] p
   nothing_more p = record { line = omega arith; more = []; grown = sym (joined_nothing p.claims); counted = omega arith; clear = tt }
@@ -143,13 +143,13 @@ module _ (P : Statement → Type 0) (only : (s : Statement) → P s → IsPublis
         clear = ((λ e. only (First i (Seq (block us)) (Seq (block vs))) e, h.clear, k.clear), tt);
       }
 
-  pub counted_each : (inners : List PlacedText) → HoldsOfEach inners (λ s. Unit {0}) IsNamed (λ o ns. Unit {0}) Counted
+  pub counted_each : (inners : List PlacedText) → HoldsOfEach inners (λ f s. Unit {0}) IsNamed (λ o ns. Unit {0}) Counted
   counted_each inners = record {
-    none = λ m p. nothing_more p;
-    both = λ m p q r xs ys h k. one_more p q r xs ys h k;
-    step = λ m p q xs s t good e h. by_step (bound_by s) t p q xs h;
-    named = λ m p q ss x ys good e h. one_more p x.1.1 q x.0 ys (by_lets ss good m p x e) h;
-    store = λ m p o ns d n at s owns there renamed e.
+    none = λ f m p. nothing_more p;
+    both = λ f m p q r xs ys h k. one_more p q r xs ys h k;
+    step = λ f m p q xs s t good e h. by_step (bound_by s) t p q xs h;
+    named = λ f m p q ss x ys good e h. one_more p x.1.1 q x.0 ys (by_lets ss good m p x e) h;
+    store = λ f m p o ns d n at s owns there renamed e.
         let w = store_is o p.loads d at s e in
         subst (λ (t : Statement). AreCounted p (t ∷ []) (with_lines 1 p)) (sym w.is) (record {
           line = omega arith;
@@ -158,29 +158,29 @@ module _ (P : Statement → Type 0) (only : (s : Statement) → P s → IsPublis
           counted = omega arith;
           clear = (λ k. only (Store o.buffer d w.coordinates _) k, tt);
         });
-    apart = λ m p q xs h. record { line = h.line; more = h.more; grown = h.grown; counted = h.counted; clear = h.clear };
-    claim = λ m p o ns d n r owns there e. record {
+    apart = λ f m p q xs h. record { line = h.line; more = h.more; grown = h.grown; counted = h.counted; clear = h.clear };
+    claim = λ f m p o ns d n r owns there e. record {
       line = omega arith;
       more = record { line = p.line - 1; buffer = o.buffer; function = o.function.subject.name; definition = d; region = r } ∷ [];
       grown = refl;
       counted = refl;
       clear = tt;
     };
-    seat = λ m p n i places at e. record {
+    seat = λ f m p n i places at e. record {
       line = omega arith;
       more = [];
       grown = sym (joined_nothing p.claims);
       counted = omega arith;
       clear = (λ k. only (Alloc p.buffer i.function.subject.name places) k, tt);
     };
-    own = λ m p q n i b xs at seat h. h tt (λ l e. tt);
-    slide = λ m p q r l all new i x y z us vs symbol good one_good two_good one two three h g.
+    own = λ f m p q n i b xs at seat h. h tt (λ l e. tt);
+    slide = λ f m p q r n j l all new i x y z us vs at later place symbol one two three h g.
         let a = by_lets (Named l.new Min l.first_new ∷ []) (tt, tt) m p x one in
         let b = by_lets (take (let_count all.steps) all.steps) (lets_counted all.steps) m x.1.1 y two in
         let c = by_lets (take (let_count new.steps) new.steps) (lets_counted new.steps) x.1.0 y.1.1 z three in
         let rest = one_more y.1.1 z.1.1 (with_lines 1 r) z.0 (choice i us vs) c (by_choice i z.1.1 q r us vs h g) in
         one_more p x.1.1 (with_lines 1 r) x.0 (y.0 ++ (z.0 ++ choice i us vs)) a (one_more x.1.1 y.1.1 (with_lines 1 r) y.0 (z.0 ++ choice i us vs) b rest);
-    window = λ m p q n i l at later e.
+    window = λ f m p q n i l at later e.
         let w = held_is i l m p q e in
         subst (AreCounted p []) w.1 (record { line = omega arith; more = []; grown = sym (joined_nothing p.claims); counted = omega arith; clear = tt });
   }

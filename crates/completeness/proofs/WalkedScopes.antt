@@ -368,21 +368,21 @@ by_choice m p q r i x y z us vs h g k a b =
 
 -- ---- piece by piece
 
-pub in_scope_each : (inners : List PlacedText) → HoldsOfEach inners (λ s. Unit {0}) IsNamed (λ o ns. Unit {0}) AreInScope
+pub in_scope_each : (inners : List PlacedText) → HoldsOfEach inners (λ f s. Unit {0}) IsNamed (λ o ns. Unit {0}) (λ f. AreInScope)
 in_scope_each inners = record {
-  none = λ m p. nothing_more m p p refl;
-  both = λ m p q r xs ys h k. one_more m p q r xs ys h k;
-  step = λ m p q xs s t good e h. by_step m p q xs s t (own_lines t - 1) e h;
-  named = λ m p q ss x ys good e h. behind_lets m p q x ys (by_lets ss good m p x e) h;
-  store = λ m p o ns d n at s owns there renamed e.
+  none = λ f m p. nothing_more m p p refl;
+  both = λ f m p q r xs ys h k. one_more m p q r xs ys h k;
+  step = λ f m p q xs s t good e h. by_step m p q xs s t (own_lines t - 1) e h;
+  named = λ f m p q ss x ys good e h. behind_lets m p q x ys (by_lets ss good m p x e) h;
+  store = λ f m p o ns d n at s owns there renamed e.
       let w = store_is o p.loads d at s e in
       subst (λ (t : Statement). AreInScope m p (t ∷ []) (with_lines 1 p)) (sym w.is) (record { rises = omega arith; bound = λ ss sc. record { lines = (tt, tt); scope = sc } });
-  apart = λ m p q xs h. record { rises = h.rises; bound = λ ss sc. let b = h.bound ss sc in record { lines = b.lines; scope = b.scope } };
-  claim = λ m p o ns d n r owns there e. nothing_more m p _ refl;
-  seat = λ m p n i places at e. record { rises = omega arith; bound = λ ss sc. record { lines = (tt, tt); scope = sc } };
-  own = λ m p q n i b xs at seat h. h tt (λ l e. tt);
-  slide = λ m p q r l all new i x y z us vs symbol good one_good two_good one two three h g.
+  apart = λ f m p q xs h. record { rises = h.rises; bound = λ ss sc. let b = h.bound ss sc in record { lines = b.lines; scope = b.scope } };
+  claim = λ f m p o ns d n r owns there e. nothing_more m p _ refl;
+  seat = λ f m p n i places at e. record { rises = omega arith; bound = λ ss sc. record { lines = (tt, tt); scope = sc } };
+  own = λ f m p q n i b xs at seat h. h tt (λ l e. tt);
+  slide = λ f m p q r n j l all new i x y z us vs at later place symbol one two three h g.
       by_choice m p q r i x y z us vs (by_lets (Named l.new Min l.first_new ∷ []) (tt, tt) m p x one) (by_lets (take (let_count all.steps) all.steps) (lets_counted all.steps) m x.1.1 y two)
       (by_lets (take (let_count new.steps) new.steps) (lets_counted new.steps) x.1.0 y.1.1 z three) h g;
-  window = λ m p q n i l at later e. let w = held_is i l m p q e in nothing_more m p q (ap (λ (u : SoFar). u.symbol) w.1);
+  window = λ f m p q n i l at later e. let w = held_is i l m p q e in nothing_more m p q (ap (λ (u : SoFar). u.symbol) w.1);
 }

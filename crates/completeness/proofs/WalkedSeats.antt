@@ -69,27 +69,27 @@ module _ (P : List ℕ → Type 0) where
 
   -- from the next buffer on, the lines allocate those up to the one that is next then
   abbrev pub Allot : Lines
-  Allot m p xs q = AllotAll P p.buffer (block xs) q.buffer
+  Allot f m p xs q = AllotAll P p.buffer (block xs) q.buffer
 
-  pub allot_each : (inners : List PlacedText) → ((n : ℕ) (i : PlacedText) → slice_get inners n ≡ Some i → P i.function.subject.name) → HoldsOfEach inners (λ s. Unit {0}) (λ s. Unit {0}) (λ
-      o ns. Unit {0}) Allot
+  pub allot_each : (inners : List PlacedText) → ((n : ℕ) (i : PlacedText) → slice_get inners n ≡ Some i → P i.function.subject.name) →
+      HoldsOfEach inners (λ f s. Unit {0}) (λ s. Unit {0}) (λ o ns. Unit {0}) Allot
   allot_each inners known = record {
-    none = λ m p. refl;
-    both = λ m p q r xs ys h g. allots_joined P xs ys p.buffer q.buffer r.buffer h g;
-    step = λ m p q xs s t fine e h. around_allots t xs p.buffer q.buffer (subst (λ (n : ℕ). AllotAll P n (block xs) q.buffer) (symbol_more (bound_by s) p) h);
-    named = λ m p q ss x ys fine e h. allots_joined P x.0 ys p.buffer x.1.1.buffer q.buffer (lets_allot ss m p x e) h;
-    store = λ m p o ns d n at s owns there c e.
+    none = λ f m p. refl;
+    both = λ f m p q r xs ys h g. allots_joined P xs ys p.buffer q.buffer r.buffer h g;
+    step = λ f m p q xs s t fine e h. around_allots t xs p.buffer q.buffer (subst (λ (n : ℕ). AllotAll P n (block xs) q.buffer) (symbol_more (bound_by s) p) h);
+    named = λ f m p q ss x ys fine e h. allots_joined P x.0 ys p.buffer x.1.1.buffer q.buffer (lets_allot ss m p x e) h;
+    store = λ f m p o ns d n at s owns there c e.
         let w = store_is o p.loads d at s e in subst (λ (t : Statement). AllotAll P p.buffer (Then t Empty) p.buffer) (sym w.is) (p.buffer, refl, refl);
-    apart = λ m p q xs h. h;
-    claim = λ m p o ns d n r owns there e. refl;
-    seat = λ m p n i places at e. (p.buffer + 1, (refl, refl, known n i at), refl);
-    own = λ m p q n i b xs at seat h. h tt (λ l e. tt);
-    slide = λ m p q r l all new s x y z us vs v f g k one two three h w.
+    apart = λ f m p q xs h. h;
+    claim = λ f m p o ns d n r owns there e. refl;
+    seat = λ f m p n i places at e. (p.buffer + 1, (refl, refl, known n i at), refl);
+    own = λ f m p q n i b xs at seat h. h tt (λ l e. tt);
+    slide = λ f m p q r n i l all new s x y z us vs at later place v one two three h w.
         let chosen : AllotAll P z.1.1.buffer (block (choice s us vs)) r.buffer = (r.buffer, (q.buffer, h, w), refl) in
         let first = lets_allot (Named l.new Min l.first_new ∷ []) m p x one in
         let second = lets_allot (take (let_count all.steps) all.steps) m x.1.1 y two in
         let third = lets_allot (take (let_count new.steps) new.steps) x.1.0 y.1.1 z three in
         allots_joined P x.0 (y.0 ++ (z.0 ++ choice s us vs)) p.buffer x.1.1.buffer r.buffer first
         (allots_joined P y.0 (z.0 ++ choice s us vs) x.1.1.buffer y.1.1.buffer r.buffer second (allots_joined P z.0 (choice s us vs) y.1.1.buffer z.1.1.buffer r.buffer third chosen));
-    window = λ m p q n i l at later e. let w = held_is i l m p q e in ap (λ (u : SoFar). u.buffer) w.1;
+    window = λ f m p q n i l at later e. let w = held_is i l m p q e in ap (λ (u : SoFar). u.buffer) w.1;
   }

@@ -280,7 +280,7 @@ module _ (a : Algorithm) (sch : Schedule) (l : Lowered) (well : IsAlgorithm a) (
   right_store place f at fs ns b seat defined shapes d n there ls loads u formula own cs are alike other =
       let e = with_calls (as_load ls) u.value in
       let right = of_definition a well free p c number (group_of q) input items refl few st marked ls (are_claims ls loads) place f at fs defined (text f).subject.reductions d n (shapes d n
-      there) own e
+      there).shape own e
       u formula (record { at = are; value = refl }) in
       let moved = same_match a p outline (definition_in (Some (parts_of f)) d) own cs e alike right in
       let parts : parts_named a f.name ≡ Some (parts_of f) = ap (λ (o : Option Function). option_map parts_of o) (named_here a well place f at) in
@@ -340,7 +340,7 @@ module _ (a : Algorithm) (sch : Schedule) (l : Lowered) (well : IsAlgorithm a) (
     pub clear : IsCounted s → AreNumbered t → AreLoads s.loads → AreLoads t.loads × ClearAll Another (block xs)
 
   abbrev pub Right : Lines
-  Right m s xs t = AreSeated s → AgreeAll T (block xs) → IsRight s xs t
+  Right f m s xs t = AreSeated s → AgreeAll T (block xs) → IsRight s xs t
 
   joined_long : {A : Type 0} (xs ys : List A) → length (xs ++ ys) ≡ length xs + length ys
   joined_long [] ys = omega arith
@@ -513,26 +513,26 @@ module _ (a : Algorithm) (sch : Schedule) (l : Lowered) (well : IsAlgorithm a) (
       one_more s x.1.1 (with_lines 1 u) x.0 (y.0 ++ (z.0 ++ chosen)) a
       (one_more x.1.1 y.1.1 (with_lines 1 u) y.0 (z.0 ++ chosen) b (one_more y.1.1 z.1.1 (with_lines 1 u) z.0 chosen d (by_choice i z.1.1 t u us vs f g)))
 
-  pub right_each : ((n : ℕ) (i : PlacedText) → slice_get inners n ≡ Some i → IsInner gs i) → HoldsOfEach inners (λ s. Unit {0}) (λ s. Unit {0}) IsOwner Right
+  pub right_each : ((n : ℕ) (i : PlacedText) → slice_get inners n ≡ Some i → IsInner gs i) → HoldsOfEach inners (λ f s. Unit {0}) (λ s. Unit {0}) IsOwner Right
   right_each known = record {
-    none = λ m s seated agree. nothing_more s seated;
-    both = λ m s t u xs ys h k seated agree. let a = h seated (agree_first T xs ys agree) in one_more s t u xs ys a (k a.seated (agree_second T xs ys agree));
-    step = λ m s t xs x y good e h seated agree.
+    none = λ f m s seated agree. nothing_more s seated;
+    both = λ f m s t u xs ys h k seated agree. let a = h seated (agree_first T xs ys agree) in one_more s t u xs ys a (k a.seated (agree_second T xs ys agree));
+    step = λ f m s t xs x y good e h seated agree.
         let inside = h (seated_inside (bound_by x) s seated) (agree_inside y xs agree) in
         by_step y s (with_lines (own_lines y - 1) t) xs (at_symbol (bound_by x) s t xs (own_lines y - 1) inside);
-    named = λ m s t ss x ys good e h seated agree. let a = by_lets ss m s x e seated in one_more s x.1.1 t x.0 ys a (h a.seated (agree_second T x.0 ys agree));
-    store = λ m s o ns d n at t owns there renamed e seated agree. stores_right o ns s d n m at t owns there renamed e seated;
-    apart = λ m s t xs h seated agree. let a = h seated agree in record {
+    named = λ f m s t ss x ys good e h seated agree. let a = by_lets ss m s x e seated in one_more s x.1.1 t x.0 ys a (h a.seated (agree_second T x.0 ys agree));
+    store = λ f m s o ns d n at t owns there renamed e seated agree. stores_right o ns s d n m at t owns there renamed e seated;
+    apart = λ f m s t xs h seated agree. let a = h seated agree in record {
       more = a.more;
       grown = a.grown;
       counted = a.counted;
       seated = a.seated;
       clear = λ counted numbered loads. (loads, (a.clear counted numbered loads).1);
     };
-    claim = λ m s o ns d n r owns there e seated agree. claims_right o s d r seated;
-    seat = λ m s n i places at e seated agree. seats_right s n i places at seated agree;
-    own = λ m s t n i b xs at seat h seated agree. let o = owners_right known s n i b at seat seated in h o.0 o.1 seated agree;
-    slide = λ m s t u k all new i x y z us vs symbol good one_good two_good one two three h g seated agree.
+    claim = λ f m s o ns d n r owns there e seated agree. claims_right o s d r seated;
+    seat = λ f m s n i places at e seated agree. seats_right s n i places at seated agree;
+    own = λ f m s t n i b xs at seat h seated agree. let o = owners_right known s n i b at seat seated in h o.0 o.1 seated agree;
+    slide = λ f m s t u n j k all new i x y z us vs at later place symbol one two three h g seated agree.
         slides_right s t u i (Named k.new Min k.first_new ∷ []) (take (let_count all.steps) all.steps) (take (let_count new.steps) new.steps) m m x.1.0 x y z us vs one two three h g seated agree;
-    window = λ m s t n i k at later e seated agree. windows_right s t n i k m e seated;
+    window = λ f m s t n i k at later e seated agree. windows_right s t n i k m e seated;
   }

@@ -4,7 +4,7 @@ use Rattle.std.specs.List.{Any}
 use Rattle.lin.specs.Forms.{Form}
 use Rattle.meaning.specs.Algorithm.{Function, Algorithm}
 use Rattle.meaning.specs.Conditions.{IsAlgorithm}
-use Rattle.plan.specs.Plan.{Statement, For, Let, Guard, Plan}
+use Rattle.plan.specs.Plan.{Statement, For, Let, First, Guard, Plan}
 use Rattle.plan.specs.View.{plan_of}
 use Rattle.plan.specs.Certificate.Certificate.{Certificate, certificate_of}
 use Rattle.sched.specs.Schedule.{Schedule}
@@ -65,3 +65,12 @@ BindingLinesAreKnown = OfEachSchedule (λ a s p c. (line : ℕ) → ¬ NamesItse
 -- nor does a line `publish` name what is unknown, where all lines can be told: its claim is known, stands at a line of the group, and is of the group's function (no K2)
 abbrev pub LastLinesAreKnown : Type 0
 LastLinesAreKnown = OfEachSchedule (λ a s p c. AreLinesTold p → (line : ℕ) → ¬ IsUnknownInside IsPublish a p c line)
+
+-- the line is one of `first`
+abbrev pub IsFirst : Statement → Type 0
+IsFirst (First i b d) = Unit {0}
+IsFirst _ = ⊥
+
+-- nor does a line `first`: its symbol is that of a loop around it (no K2)
+abbrev pub ChoiceLinesAreKnown : Type 0
+ChoiceLinesAreKnown = OfEachSchedule (λ a s p c. (line : ℕ) → ¬ IsUnknownInside IsFirst a p c line)

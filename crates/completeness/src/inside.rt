@@ -1,6 +1,6 @@
 //! Laws of the plans that `lower` makes of whatever schedule: functions may be computed inside loops, whatever is split, and have updates.
 
-ghost use Rattle.completeness.specs.Inside.{AllDefinitionsAreStored, BindingLinesAreKnown, HeadsStand, LastLinesAreKnown};
+ghost use Rattle.completeness.specs.Inside.{AllDefinitionsAreStored, BindingLinesAreKnown, ChoiceLinesAreKnown, HeadsStand, LastLinesAreKnown};
 
 /// Of whatever schedule a plan is made, its head is the algorithm's (no K1): its name, its input and its output are, and some group is of the output's function.
 pub fn heads_stand()
@@ -24,4 +24,9 @@ pub fn binding_lines_are_known()
 /// stands at a line of the group, and is of the group's function.
 pub fn publish_lines_are_known()
     ensures { LastLinesAreKnown }
+{}
+
+/// Nor does a line `first` of it (no K2): its symbol is that of a loop around it, the one along which the function slides whose lines it chooses.
+pub fn choice_lines_are_known()
+    ensures { ChoiceLinesAreKnown }
 {}
