@@ -1,5 +1,5 @@
 -- Along which loop a function slides, what it holds in each turn, and which functions are computed at the places of a loop, part by part.
-use Rattle.std.proofs.Common.{◌≡◌, ℕ, zero, suc, ◌+◌, ◌<◌, ◌==◌, Bool, true, false, List, [], ◌∷◌, ◌++◌, length, map, Option, Some, None, Result, Ok, Err, refl, sym, ap, subst, ◌∙◌, arith}
+use Rattle.std.proofs.Common.{◌≡◌, ℕ, zero, suc, ◌+◌, ◌<◌, ◌==◌, Bool, true, false, List, [], ◌∷◌, ◌++◌, length, map, Option, Some, None, Result, Ok, Err, refl, sym, ap, subst, ◌∙◌, arith, inl, inr}
 use Rattle.std.specs.Prelude.{slice_get, if◌then◌else◌, IfOk}
 use Rattle.std.specs.List.{AllByRecursion, list_any}
 use Rattle.std.specs.Option.{option_map}
@@ -36,8 +36,8 @@ use Rattle.lower.specs.Demanded.{scope_at, sites_at, is_rounding, is_rounded}
 use Rattle.lower.specs.Guarded.{needed_at}
 use Rattle.lower.specs.Slid.{TrackText, is_single, is_split, fit_along, sliding_seen, sliding_at, new_from, new_region, held_along, IsLater, HasLater, HoldsBy, Holds}
 use Rattle.lower.specs.Parted.{kept_region, nests_over}
-use Rattle.lower.specs.Rounded.{lain_over, lain_kept, claim_of, begun_seen, lain_seen}
-use Rattle.lower.specs.Computed.{before, spots_in, spots_by, spots_of_hosts, spots_at, spots_of, is_called, called_spots, IsLain, IsComputed, AreComputed, AreComputedIf, AreFound, AreFoundIf, IsComputedAt, IsComputedBy, AreComputedAt}
+use Rattle.lower.specs.Rounded.{LainText, lain_over, lain_kept, claim_of, begun_seen, lain_seen}
+use Rattle.lower.specs.Computed.{before, spots_in, spots_by, spots_of_hosts, spots_at, spots_of, is_called, called_spots, IsLain, IsComputed, AreComputed, AreComputedIf, AreFound, AreFoundIf, IsMissing, IsNamedAt, IsComputedAt, IsComputedBy, AreComputedAt, IsJudged, IsSeated}
 
 -- ---- splits
 
@@ -75,8 +75,8 @@ module _ (g : StoredText) (scope : List Binding) (r : List Span1) (d : ℕ) wher
 
 pub later_made : (g : StoredText) (fs : List FormulaText) (k : List Span1) (x : TrackText × ℕ) (scope : List Binding) (h r : List Span1) (s : Span1) (l : LaterText) → slice_get h x.1 ≡ Some s
     → l.symbol ≡ x.0.symbol → l.dimension ≡ x.1 → new_from x.0.symbol s ≡ Some l.first_new → l.scope ≡ scope ++ LetMin l.first_new ∷ [] → r ≡ new_region scope x.1 0 h
-    → nests_over g fs l.scope r k ≡ Some l.nests → IsLater g fs (Some k) x scope h l
-later_made g fs k x scope h r s l along symbol dimension first scoped new nests =
+    → l.region ≡ r → nests_over g fs l.scope r k ≡ Some l.nests → IsLater g fs (Some k) x scope h l
+later_made g fs k x scope h r s l along symbol dimension first scoped new over nests =
     record {
       symbol = symbol;
       dimension = dimension;
@@ -84,6 +84,7 @@ later_made g fs k x scope h r s l along symbol dimension first scoped new nests 
       along = along;
       first_new = first;
       scoped = scoped;
+      new = over ∙ new;
       nested = ap (λ (q : List Span1). nests_over g fs l.scope q k) (sym new) ∙ nests;
     }
 
@@ -122,8 +123,9 @@ module _ (a : Algorithm) (e : Entry) (es : List Entry) (is : List PlacedText) (c
   pub is_computed : (home store : Spot) (sites : List SiteText) (outer around : List Binding) (needed : List Span1) (o : Option (TrackText × ℕ)) (i : PlacedText) → i.function ≡ c.0 → i.formulas ≡ c.2
       → i.home ≡ home → i.store ≡ store → outer ≡ scope_at e is store → around ≡ scope_at e is home → i.scope ≡ bind_steps around i.lets → sites_at a e is home c.0.subject.name ≡ Some sites
       → needed_at a e is home around sites c.0 c.1.region ≡ Some needed → o ≡ sliding_at e is c.0 home store needed → Holds es c.0 c.2 (length outer) around needed o i.region i.later
-      → IsLain (lain_kept a c.0 c.2 around i.region (kept_region (length outer) around i.region)) i → IsComputed a e es is c i
-  is_computed home store sites outer around needed o i function formulas at stored is_outer is_around scoped called is_needed slides holds lain =
+      → IsLain (lain_kept a c.0 c.2 around i.region (kept_region (length outer) around i.region)) i → IsJudged c.0 outer around needed o i
+      → IsSeated c.0 outer sites o (lain_kept a c.0 c.2 around i.region (kept_region (length outer) around i.region)) i → IsComputed a e es is c i
+  is_computed home store sites outer around needed o i function formulas at stored is_outer is_around scoped called is_needed slides holds lain judged seats =
       let there : around ≡ scope_at e is i.home = is_around ∙ ap (scope_at e is) (sym at) in
       let beside : outer ≡ scope_at e is i.store = is_outer ∙ ap (scope_at e is) (sym stored) in
       let sliding : o ≡ sliding_at e is c.0 i.home i.store needed = slides ∙ (λ j. sliding_at e is c.0 (sym at j) (sym stored j) needed) in
@@ -142,6 +144,14 @@ module _ (a : Algorithm) (e : Entry) (es : List Entry) (is : List PlacedText) (c
         holds = subst (λ (b : List Binding). Holds es c.0 c.2 (length (scope_at e is i.store)) b needed (sliding_at e is c.0 i.home i.store needed) i.region i.later) there behind;
         lain = subst (λ (b : List Binding). IsLain (lain_kept a c.0 c.2 b i.region (kept_region (length (scope_at e is i.store)) b i.region)) i) there
             (subst (λ (b : List Binding). IsLain (lain_kept a c.0 c.2 around i.region (kept_region (length b) around i.region)) i) beside lain);
+        judged = subst (λ (b : List Binding). IsJudged c.0 (scope_at e is i.store) b needed (sliding_at e is c.0 i.home i.store needed) i) there
+            (subst (λ (b : List Binding). IsJudged c.0 b around needed (sliding_at e is c.0 i.home i.store needed) i) beside
+            (subst (λ (p : Option (TrackText × ℕ)). IsJudged c.0 outer around needed p i) sliding judged));
+        seated =
+            let kept : List Binding → List Binding → Option LainText = λ b d. lain_kept a c.0 c.2 d i.region (kept_region (length b) d i.region) in
+            subst (λ (b : List Binding). IsSeated c.0 (scope_at e is i.store) sites (sliding_at e is c.0 i.home i.store needed) (kept (scope_at e is i.store) b) i) there
+            (subst (λ (b : List Binding). IsSeated c.0 b sites (sliding_at e is c.0 i.home i.store needed) (kept b around) i) beside
+            (subst (λ (p : Option (TrackText × ℕ)). IsSeated c.0 outer sites p (kept outer around) i) sliding seats));
       }
 
   pub nothing_calls : (s : Spot) (sites : List Site) → sites_at a e is s c.0.subject.name ≡ Some (map site_of sites) → sites ≡ [] → IsComputedAt a e es is c s None
@@ -294,10 +304,20 @@ module _ (a : Algorithm) (e : Entry) (es : List Entry) where
       let first : AreComputedIf a e es is (slice_get es last) js = subst (λ (p : Option Entry). AreComputedIf a e es is p js) (sym at) these in
       subst (λ (k : ℕ). AreFound a e es k is all) (sym next) (record { found = js; these = first; others = others })
 
+  next_missing : (n last : ℕ) (o : Option Entry) (js is : List PlacedText) (x : List ℕ) → n ≡ suc last → slice_get es last ≡ o → AreComputedIf a e es is o js
+      → IsMissing a e es last (is ++ js) x → IsMissing a e es n is x
+  next_missing n last o js is x next at these others =
+      let first : AreComputedIf a e es is (slice_get es last) js = subst (λ (p : Option Entry). AreComputedIf a e es is p js) (sym at) these in
+      subst (λ (k : ℕ). IsMissing a e es k is x) (sym next) (inr (record { found = js; these = first; others = others }))
+
+  this_missing : (n last : ℕ) (c : Entry) (is : List PlacedText) (x : List ℕ) → n ≡ suc last → slice_get es last ≡ Some c → c.0.subject.name ≡ x → IsMissing a e es n is x
+  this_missing n last c is x next at named =
+      subst (λ (k : ℕ). IsMissing a e es k is x) (sym next) (inl (subst (λ (p : Option Entry). IsNamedAt p x) (sym at) named))
+
   next_if : (n last : ℕ) (o : Option Entry) (js is : List PlacedText) (r : Result (Vec Inner) (List ℕ)) → n ≡ suc last → slice_get es last ≡ o → AreComputedIf a e es is o js
       → AreFoundIf a e es last (is ++ js) r → AreFoundIf a e es n is r
   next_if n last o js is (Ok v) next at these others = next_found n last o js is (map inner_seen v.items) next at these others
-  next_if n last o js is (Err x) next at these others = tt
+  next_if n last o js is (Err x) next at these others = next_missing n last o js is x next at these others
 
   pub found_last : (n : ℕ) (xs : List Inner) (v : Vec Inner) → n < 1 → v.items ≡ xs → AreFoundIf a e es n (map inner_seen xs) (Ok v)
   found_last n xs v h is_so = zero_found n (map inner_seen xs) (map inner_seen v.items) h (ap (map inner_seen) is_so)
@@ -319,6 +339,12 @@ module _ (a : Algorithm) (e : Entry) (functions : List Root) (n last : ℕ) (xs 
       let rest : AreFoundIf a e (map root_of functions) last (map inner_seen xs ++ map inner_seen ys) r =
       subst (λ (l : List PlacedText). AreFoundIf a e (map root_of functions) last l r) (ap (map inner_seen) z ∙ map-append inner_seen xs ys) others in
       next_if a e (map root_of functions) n last (Some (root_of c)) (map inner_seen ys) (map inner_seen xs) r (omega (arith, next)) at these rest
+
+  pub found_missing : (c : Root) (x : List ℕ) → n ≡ last + 1 → slice_get functions last ≡ Some c → x ≡ (root_of c).0.subject.name
+      → AreFoundIf a e (map root_of functions) n (map inner_seen xs) (Err x)
+  found_missing c x next some named =
+      let at : slice_get (map root_of functions) last ≡ Some (root_of c) = slice_get-map root_of functions last ∙ ap (option_map root_of) some in
+      this_missing a e (map root_of functions) n last (root_of c) (map inner_seen xs) x (omega (arith, next)) at (sym named)
 
 pub found_without : (a : Algorithm) (e : Entry) (functions : List Root) (v : Vec Inner) → functions ≡ [] → v.items ≡ []
     → AreFoundIf a e (map root_of functions) (length functions) [] (Ok v)

@@ -27,8 +27,8 @@ use Rattle.lower.specs.Bodies.{first_lines, IsBodyWith}
 use Rattle.lower.specs.Making.{IsBegun, FetchMade, with_first, BodyMade, GroupMade}
 use Rattle.lower.specs.Renamed.{Pairs}
 use Rattle.lower.specs.Placed.{PlacedText, SoFar, seat_of, so_far, group_owner, nests_over_grid, HasSome, numbered, picked, AreFetchedBy, with_fetched, begun, MayFetch, FetchesBy, inner_seen}
-use Rattle.lower.specs.Computed.{AreFound, AreAllFound, AreFoundIf}
-use Rattle.lower.specs.Groups.{root_of, party_of, inners_of, placed_of, line_behind, IsBodyBy, AreBodiesBy, MixedMade, GroupBy, GroupsBy, IsKnown, AreKnown, AreFoundOf}
+use Rattle.lower.specs.Computed.{AreFound, AreAllFound, AreFoundIf, AreFoundIn}
+use Rattle.lower.specs.Groups.{root_of, party_of, inners_of, placed_of, line_behind, IsBodyBy, AreBodiesBy, MixedMade, GroupBy, GroupsBy, IsKnown, AreKnown, AreFoundOf, AreAllFoundIf, all_known, inside_of, inside_at, placed_in}
 use Rattle.lower.specs.Homes.{AreAtHome, AreAllAtHome}
 
 -- ---- lists
@@ -321,3 +321,28 @@ known_found a e es n is (Ok v) h k = h
 pub all_found : (a : Algorithm) (n : ℕ) (es : List Entry) (qs : List Party) → AreFoundOf a n es qs → AreKnown qs → AreAllFound a n (map party_of qs) es (map placed_of qs)
 all_found a n es [] h k = tt
 all_found a n es (q ∷ qs) h k = (known_found a (party_of q) es n [] q.inners h.0 k.0, all_found a n es qs h.1 k.1)
+
+-- the same where a bound may be missing
+found_inside : (a : Algorithm) (e : Entry) (es : List Entry) (n : ℕ) (is : List PlacedText) (r : Result (Vec Inner) (List ℕ)) → AreFoundIf a e es n is r → AreFoundIn a e es n is (inside_of r)
+found_inside a e es n is (Err x) h = h
+found_inside a e es n is (Ok v) h = h
+
+pub all_inside : (a : Algorithm) (n : ℕ) (es : List Entry) (qs : List Party) → AreFoundOf a n es qs → AreAllFoundIf a n (map party_of qs) es (map inside_at qs)
+all_inside a n es [] h = tt
+all_inside a n es (q ∷ qs) h = (found_inside a (party_of q) es n [] q.inners h.0, all_inside a n es qs h.1)
+
+placed_so : (r : Result (Vec Inner) (List ℕ)) → placed_in (inside_of r) ≡ inners_of r
+placed_so (Err x) = refl
+placed_so (Ok v) = refl
+
+pub placed_all : (qs : List Party) → map placed_in (map inside_at qs) ≡ map placed_of qs
+placed_all [] = refl
+placed_all (q ∷ qs) = λ i. placed_so q.inners i ∷ placed_all qs i
+
+known_so : (r : Result (Vec Inner) (List ℕ)) → IsKnown r → inside_of r ≡ Ok (inners_of r)
+known_so (Err x) k = absurd k
+known_so (Ok v) k = refl
+
+pub known_inside : (qs : List Party) → AreKnown qs → map inside_at qs ≡ all_known (map placed_of qs)
+known_inside [] k = refl
+known_inside (q ∷ qs) k = λ i. known_so q.inners k.0 i ∷ known_inside qs k.1 i

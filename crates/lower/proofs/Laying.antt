@@ -49,7 +49,7 @@ module _ (a : Algorithm) (g : StoredText) (fs : List FormulaText) where
       if_same (same_region l.region c.value) l x (again b.value c.value) is
       (λ e. let d = bound (over g fs c.value) (closed a g fs k b.value) x e in closed_it k b.value d.value x (over_it g fs c.value d.value d.is) d.comes) c.comes
 
-  laid_it : (reach : List (Option Ends)) (x : LaidText) → laid_over a g fs reach ≡ Some x → IsLaidOver g fs x
+  pub laid_it : (reach : List (Option Ends)) (x : LaidText) → laid_over a g fs reach ≡ Some x → IsLaidOver g fs x
   laid_it reach x h =
       let b = bound (region_of g.subject.is_root reach >>= over g fs) (closed a g fs 4 reach) x h in
       let c = bound (region_of g.subject.is_root reach) (over g fs) b.value b.is in
@@ -61,13 +61,6 @@ laid_over_it a g later found fs x e h =
     let is : laid_by a g (Some fs) later found ≡ Some x = ap (λ o. laid_by a g o later found) (sym e) ∙ h in
     let b = bound (reach_of a g later found) (laid_over a g fs) x is in
     laid_it a g fs b.value x b.comes
-
-pub again_over : (a : Algorithm) (g : StoredText) (fs : List FormulaText) (reach : List (Option Ends)) (l : Laid) → laid_over a g fs reach ≡ Some (laid_of l)
-    → skeleton_of g fs (laid_of l).region ≡ Some (laid_of l).skeleton
-again_over a g fs reach l h = laid_it a g fs reach (laid_of l) h
-
-pub over_region : (g : StoredText) (l : LaidText) (o : Option (List FormulaText)) (fs : List FormulaText) → o ≡ Some fs → skeleton_of g fs l.region ≡ Some l.skeleton → IsOverRegion g (Some l) o
-over_region g l o fs e h = subst (λ (p : Option (List FormulaText)). IsOverRegion g (Some l) p) (sym e) h
 
 each_over : (a : Algorithm) (g : StoredText) (gs : List StoredText) (o : Option LaidText) (p : Option (List FormulaText)) → g.formulas ≡ p → laid_within a g gs (laid_functions a gs) ≡ o
     → IsOverRegion g o p
@@ -81,8 +74,3 @@ all_over a (g ∷ gs) = (each_over a g gs (laid_within a g gs (laid_functions a 
 
 pub needed_over : (a : Algorithm) (gs : List StoredText) (ls : List (Option LaidText)) → ls ≡ laid_functions a gs → AreOverRegions gs ls
 needed_over a gs ls h = subst (AreOverRegions gs) (sym h) (all_over a gs)
-
-pub first_over : (g : StoredText) (gs : List StoredText) (l : Option Laid) (ls all : List (Option Laid)) → IsOverRegion g (option_map laid_of l) g.formulas
-    → AreOverRegions gs (map (option_map laid_of) ls) → all ≡ l ∷ ls → AreOverRegions (g ∷ gs) (map (option_map laid_of) all)
-first_over g gs l ls all first others h =
-    subst (λ (q : List (Option Laid)). AreOverRegions (g ∷ gs) (map (option_map laid_of) q)) (sym h) (first, others)

@@ -1,7 +1,9 @@
 pub mod Along
 pub mod Arriving
+pub mod Asking
 pub mod Bindings
 pub mod Blocking
+pub mod Breaking
 pub mod Calling
 pub mod Claimed
 pub mod Counted

@@ -1,5 +1,5 @@
 -- What the groups of a plan are, as they are made one after another.
-use Rattle.std.proofs.Common.{◌≡◌, ℕ, ◌+◌, Bool, true, false, not, ◌&&◌, List, [], ◌∷◌, length, map, Option, Some, None, refl, sym, ap, subst}
+use Rattle.std.proofs.Common.{◌≡◌, ℕ, ◌+◌, Bool, true, false, not, ◌&&◌, List, [], ◌∷◌, length, map, Option, Some, None, refl, sym, ap, subst, ◌∙◌}
 use Rattle.std.specs.Prelude.{if◌then◌else◌}
 use Rattle.std.proofs.lemmas.Bool.{false≢true}
 use Rattle.lin.specs.Regions.{IsInside}
@@ -17,19 +17,21 @@ use Rattle.lower.specs.Heads.{IsHeadOf}
 use Rattle.lower.specs.Faults.{is_homeless, is_whole, are_whole}
 use Rattle.lower.specs.declared.parties.Party.{Party}
 use Rattle.lower.specs.Fetches.{Entry}
-use Rattle.lower.specs.Groups.{IsGroupOf, AreGroupsOf, IsOwnOf, AreOwned, HaveBlocks, line_behind, HaveBodies, grid_over, root_functions, region_of, HasGroups, rooted_if, rooted, has_region, AreLaid, IsOver, IsOwnOver, AreMade, AreBodies, AreBodiesBy, AreOverRegions, placed_of, AreAlone, IsPlanOf}
+use Rattle.lower.specs.Groups.{IsGroupOf, AreGroupsOf, IsOwnOf, AreOwned, HaveBlocks, line_behind, HaveBodies, grid_over, root_functions, region_of, HasGroupsFrom, Come, AreKnown, IsKeptPlan, all_known, inside_at, rooted_if, rooted, has_region, AreLaid, IsOver, IsOwnOver, AreMade, AreBodies, AreBodiesBy, AreOverRegions, placed_of, AreAlone, IsPlanOf}
 use Rattle.lower.specs.Computed.{AreAllFound}
+use Rattle.lower.specs.Broken.{Inside, first_over}
 use Rattle.lower.specs.Homes.{AreAllAtHome}
+use Rattle.lower.proofs.Grouped.{known_inside}
 use Rattle.lower.proofs.Laying.{IsLaidOver, laid_over_it}
 
-both : (a b : Bool) → (a && b) ≡ true → (a ≡ true) × (b ≡ true)
+pub both : (a b : Bool) → (a && b) ≡ true → (a ≡ true) × (b ≡ true)
 both true b h = (refl, h)
 both false b h = absurd (false≢true h)
 
-whole_root : (g : StoredText) (gs : List StoredText) → are_whole (g ∷ gs) ≡ true → g.subject.is_root ≡ true
+pub whole_root : (g : StoredText) (gs : List StoredText) → are_whole (g ∷ gs) ≡ true → g.subject.is_root ≡ true
 whole_root g gs w = (both g.subject.is_root (is_homeless g.placed.homes) (both (is_whole g) (are_whole gs) w).0).0
 
-whole_rest : (g : StoredText) (gs : List StoredText) → are_whole (g ∷ gs) ≡ true → are_whole gs ≡ true
+pub whole_rest : (g : StoredText) (gs : List StoredText) → are_whole (g ∷ gs) ≡ true → are_whole gs ≡ true
 whole_rest g gs w = (both (is_whole g) (are_whole gs) w).1
 
 -- ---- one for each root function
@@ -175,14 +177,17 @@ pub plan_made : (a : Algorithm) (all : List Entry) (claims : List Claim) (needs 
     (os : List Own) → AreLaid gs ls → AreOverRegions gs ls → all ≡ rooted true gs ls → es ≡ rooted true gs ls → (rooted false gs ls ≡ [] → AreAlone qs) → AreMade es 0 ps os
     → (AreAlone qs → AreBodies a all 0 0 4 es ps claims needs) → l.plan.groups.items ≡ ps → l.certificate.own.items ≡ os → l.certificate.claims.items ≡ claims → l.certificate.needs.items ≡ needs
     → (AreAlone qs → l.certificate.windows.items ≡ []) → IsHeadOf a l.plan → AreAllAtHome es (rooted false gs ls) (map placed_of qs)
-    → AreAllFound a (length (rooted false gs ls)) es (rooted false gs ls) (map placed_of qs) → AreBodiesBy a all 0 0 4 (map placed_of qs) es ps claims needs l.certificate.windows.items → IsPlanOf a gs ls l
-plan_made a all claims needs gs ls qs es l ps os laid around roots e alone made does is_groups is_own is_claims is_needs windows head homes found by =
+    → AreAllFound a (length (rooted false gs ls)) es (rooted false gs ls) (map placed_of qs) → AreBodiesBy a all 0 0 4 (map placed_of qs) es ps claims needs l.certificate.windows.items → AreKnown qs
+    → IsPlanOf a gs ls qs l
+plan_made a all claims needs gs ls qs es l ps os laid around roots e alone made does is_groups is_own is_claims is_needs windows head homes found by known =
     let held = l.certificate.windows.items in
     record {
       placed = record {
         placed = map placed_of qs;
-        homes = subst (λ (xs : List Entry). AreAllAtHome xs (rooted false gs ls) (map placed_of qs)) e homes;
-        found = subst (λ (xs : List Entry). AreAllFound a (length (rooted false gs ls)) xs (rooted false gs ls) (map placed_of qs)) e found;
+        stand = record {
+          homes = subst (λ (xs : List Entry). AreAllAtHome xs (rooted false gs ls) (map placed_of qs)) e homes;
+          found = subst (λ (xs : List Entry). AreAllFound a (length (rooted false gs ls)) xs (rooted false gs ls) (map placed_of qs)) e found;
+        };
         bodies =
             let js = map placed_of qs in
             let by_roots : AreBodiesBy a (rooted true gs ls) 0 0 4 js es ps claims needs held = subst (λ (xs : List Entry). AreBodiesBy a xs 0 0 4 js es ps claims needs held) roots by in
@@ -194,6 +199,8 @@ plan_made a all claims needs gs ls qs es l ps os laid around roots e alone made 
             subst (λ (xs : List Claim). AreBodiesBy a (rooted true gs ls) 0 0 4 js (rooted true gs ls) l.plan.groups.items xs needs held) (sym is_claims) by_groups in
             subst (λ (xs : List Need). AreBodiesBy a (rooted true gs ls) 0 0 4 js (rooted true gs ls) l.plan.groups.items l.certificate.claims.items xs held) (sym is_needs) by_claims;
       };
+      known = known;
+      are = refl;
       head = head;
       laid = laid;
       around = around;
@@ -217,14 +224,25 @@ made_first e es n m p o ps qs os rs is own are next h k =
     let behind : AreMade es (n + 1) ps os = subst (λ (i : ℕ). AreMade es i ps os) next are in
     subst (λ (xs : List Group). AreMade (e ∷ es) n xs rs) (sym h) (subst (λ (xs : List Own). AreMade (e ∷ es) n (p ∷ ps) xs) (sym k) (is, own, behind))
 
-pub groups_made : (a : Algorithm) (gs : List StoredText) (ls : List (Option LaidText)) (l : Lowered) → IsPlanOf a gs ls l → (are_whole gs ≡ true → ls ≡ laid_functions a gs) → HasGroups a gs l
-groups_made a gs ls l is laid =
+pub groups_made : (a : Algorithm) (gs : List StoredText) (n : ℕ) (ls : List (Option LaidText)) (qs : List Party) (l : Lowered) → IsKeptPlan a gs ls qs l
+    → (are_whole gs ≡ true → ls ≡ laid_functions a gs) → Come a gs n ls ls (map inside_at qs) → HasGroupsFrom a gs n ls l
+groups_made a gs n ls qs l kept_plan laid come =
+    let is = kept_plan.plan in
+    let inside : map inside_at qs ≡ all_known is.placed.placed = known_inside qs is.known ∙ ap all_known (sym is.are) in
     let ps = l.plan.groups.items in
     let os = l.certificate.own.items in
     let cs = l.certificate.claims.items in
     let ws = l.certificate.needs.items in
     record {
-      placed = record { regions = ls; laid = is.laid; around = is.around; over = is.made; inside = is.placed };
+      placed = record {
+        regions = ls;
+        laid = is.laid;
+        around = is.around;
+        over = is.made;
+        inside = is.placed;
+        come = subst (λ (xs : List Inside). Come a gs n ls ls xs) inside come;
+        kept = ap (first_over a gs None ls) (sym inside) ∙ kept_plan.kept;
+      };
       head = is.head;
       each = each_of gs ls is.laid 0 ps os is.made;
       owned = owned (rooted true gs ls) 0 ps os is.made;

@@ -1,8 +1,11 @@
 -- Which functions are computed inside a group's loops: the last declared first, each at those places of its loop at which it is called, over what is needed of it there.
-use Rattle.std.specs.Prelude.{◌≡◌, ℕ, zero, suc, ◌+◌, Bool, true, false, if◌then◌else◌, List, [], ◌∷◌, ◌++◌, length, map, Option, Some, None, Result, Ok, Err, slice_get}
+use Rattle.std.specs.Prelude.{◌≡◌, ◌⊎◌, ℕ, zero, suc, ◌+◌, Bool, true, false, ◌&&◌, if◌then◌else◌, List, [], ◌∷◌, ◌++◌, length, map, Option, Some, None, Result, Ok, Err, slice_get}
 use Rattle.std.specs.List.{AllByRecursion}
 use Rattle.std.specs.Global.{Vec}
+use Rattle.lin.specs.declared.scope.Binding.{Binding}
 use Rattle.lin.specs.declared.span.Span1.{Span1}
+use Rattle.plan.specs.declared.stmt.Places.{Places}
+use Rattle.sched.specs.Standing.{◌>>=◌}
 use Rattle.meaning.specs.Algorithm.{Algorithm}
 use Rattle.meaning.specs.Names.{same_name}
 use Rattle.sched.specs.declared.schedule.Home.{Home}
@@ -15,13 +18,15 @@ use Rattle.lower.specs.Around.{bind_steps}
 use Rattle.lower.specs.Taken.{SiteText}
 use Rattle.lower.specs.Fetches.{Entry}
 use Rattle.lower.specs.Uses.{first_home}
-use Rattle.lower.specs.Placed.{PlacedText, inner_seen}
+use Rattle.lower.specs.Placed.{LaterText, PlacedText, fold_of, inner_seen}
+use Rattle.lower.specs.Seats.{add_places, folded}
 use Rattle.lower.specs.Homes.{HostText, host_at, hosts_named, is_over_grid, spot_in}
 use Rattle.lower.specs.Demanded.{scope_at, sites_at}
 use Rattle.lower.specs.Guarded.{needed_at}
 use Rattle.lower.specs.Parted.{kept_region}
 use Rattle.lower.specs.Rounded.{LainText, lain_kept, claim_of}
-use Rattle.lower.specs.Slid.{sliding_at, Holds}
+use Rattle.lower.specs.Broken.{Inside, is_small}
+use Rattle.lower.specs.Slid.{TrackText, dimension_along, folds_fit, sliding_at, Holds}
 
 -- ---- the places of a function's loop
 
@@ -76,6 +81,29 @@ pub record IsLain (o : Option LainText) (i : PlacedText) : Type 0 where
   pub nests : i.nests ≡ lain.nests
   pub claims : claim_of i.function i.scope lain.begun lain.nests i.region ≡ Some i.claimed
 
+-- one turn needs no more numbers of it than a function may have, nor do all for which its buffer stands
+abbrev pub are_small : List Binding → List Span1 → List Binding → Option (List Span1) → Bool
+are_small scope r outer None = false
+are_small scope r outer (Some kept) = is_small scope r && is_small outer kept
+
+-- whether its folds have places for the window of this region, along which it may slide, and whether it is small, is told so
+pub record IsJudged (g : StoredText) (outer around : List Binding) (r : List Span1) (along : Option (TrackText × ℕ)) (i : PlacedText) : Type 0 where
+  pub fits : i.fits ≡ folds_fit g i.scope r (dimension_along along)
+  pub small : i.is_small ≡ are_small i.scope r outer (kept_region (length outer) around i.region)
+
+-- the places of its buffer: in each dimension of what is kept of what its nests are made of, folded where it slides
+abbrev pub seated : StoredText → List Binding → List Binding → LainText → Option LaterText → List SiteText → Option ℕ → Option (List Places)
+seated g outer scope l later ss along =
+    kept_region (length outer) scope l.begun.region >>= λ kept. add_places outer (record { scope = scope; nests = l.nests; later = later }) ss 0 kept [] >>=
+    λ ps. Some (folded along (fold_of g.placed.folds) ps)
+
+abbrev pub seats_of : StoredText → List Binding → List Binding → Option LaterText → List SiteText → Option ℕ → Option LainText → Option (List Places)
+seats_of g outer scope later ss along None = None
+seats_of g outer scope later ss along (Some l) = seated g outer scope l later ss along
+
+pub record IsSeated (g : StoredText) (outer : List Binding) (ss : List SiteText) (along : Option (TrackText × ℕ)) (o : Option LainText) (i : PlacedText) : Type 0 where
+  pub is : seats_of g outer i.scope i.later ss (dimension_along along) o ≡ Some i.places
+
 -- what is computed there: around its nests is what stands around the place, and its own lets; of it is made what the calls at the place need, in each turn or, where it
 -- slides, as far as it is new; its nests are those over that, with what is named before them
 pub record IsComputed (a : Algorithm) (e : Entry) (es : List Entry) (is : List PlacedText) (c : Entry) (i : PlacedText) : Type 0 where
@@ -88,6 +116,9 @@ pub record IsComputed (a : Algorithm) (e : Entry) (es : List Entry) (is : List P
   pub needed : needed_at a e is i.home (scope_at e is i.home) sites c.0 c.1.region ≡ Some region
   pub holds : Holds es c.0 c.2 (length (scope_at e is i.store)) (scope_at e is i.home) region (sliding_at e is c.0 i.home i.store region) i.region i.later
   pub lain : IsLain (lain_kept a c.0 c.2 (scope_at e is i.home) i.region (kept_region (length (scope_at e is i.store)) (scope_at e is i.home) i.region)) i
+  pub judged : IsJudged c.0 (scope_at e is i.store) (scope_at e is i.home) region (sliding_at e is c.0 i.home i.store region) i
+  pub seated : IsSeated c.0 (scope_at e is i.store) sites (sliding_at e is c.0 i.home i.store region)
+      (lain_kept a c.0 c.2 (scope_at e is i.home) i.region (kept_region (length (scope_at e is i.store)) (scope_at e is i.home) i.region)) i
 
 -- these are all of a function's in a group in which those are computed that are declared later
 pub record AreComputed (a : Algorithm) (e : Entry) (es : List Entry) (is : List PlacedText) (c : Entry) (js : List PlacedText) : Type 0 where
@@ -108,6 +139,21 @@ pub record Behind (P : List PlacedText → Type 0) (Q : List PlacedText → Type
 abbrev pub AreFound : Algorithm → Entry → List Entry → ℕ → List PlacedText → List PlacedText → Type 0
 AreFound a e es zero is all = all ≡ is
 AreFound a e es (suc n) is all = Behind (AreComputedIf a e es is (slice_get es n)) (λ js. AreFound a e es n (is ++ js) all)
+
+-- there is a function of this name
+abbrev pub IsNamedAt : Option Entry → List ℕ → Type 0
+IsNamedAt None x = ⊥
+IsNamedAt (Some c) x = c.0.subject.name ≡ x
+
+-- one of the functions before this number has this name, and those behind it are computed in the group
+abbrev pub IsMissing : Algorithm → Entry → List Entry → ℕ → List PlacedText → List ℕ → Type 0
+IsMissing a e es zero is x = ⊥
+IsMissing a e es (suc n) is x = IsNamedAt (slice_get es n) x ⊎ Behind (AreComputedIf a e es is (slice_get es n)) (λ js. IsMissing a e es n (is ++ js) x)
+
+-- all that are computed in a group, or the name of one of which a bound is missing there
+abbrev pub AreFoundIn : Algorithm → Entry → List Entry → ℕ → List PlacedText → Inside → Type 0
+AreFoundIn a e es n is (Ok all) = AreFound a e es n is all
+AreFoundIn a e es n is (Err x) = IsMissing a e es n is x
 
 -- of each group
 abbrev pub AreAllFound : Algorithm → ℕ → List Entry → List Entry → List (List PlacedText) → Type 0
@@ -131,7 +177,7 @@ pub record AreComputedAt (a : Algorithm) (e : Entry) (es : List Entry) (is : Lis
   pub places : map (λ i. i.home) js ≡ called_spots a e is c.0.subject.name ss
   pub each : AllByRecursion (IsComputed a e es is c) js
 
--- those of the group's, unless a bound is missing
+-- those of the group's, or the name of one of which a bound is missing
 abbrev pub AreFoundIf : Algorithm → Entry → List Entry → ℕ → List PlacedText → Result (Vec Inner) (List ℕ) → Type 0
-AreFoundIf a e es n is (Err x) = Unit {0}
+AreFoundIf a e es n is (Err x) = IsMissing a e es n is x
 AreFoundIf a e es n is (Ok v) = AreFound a e es n is (map inner_seen v.items)

@@ -1,6 +1,8 @@
 -- The groups of a plan: one for each stored root function, in the order of declaration, over its region, with a piece for each turn of
 -- its parallel loops.
-use Rattle.std.specs.Prelude.{◌≡◌, ℕ, ◌+◌, Bool, true, false, not, if◌then◌else◌, List, [], ◌∷◌, ◌++◌, length, map, Option, Some, None, Result, Ok, Err, string_bytes}
+use Rattle.std.specs.Prelude.{◌≡◌, ◌⊎◌, ℕ, zero, suc, ◌+◌, Bool, true, false, not, ◌&&◌, ◌||◌, if◌then◌else◌, List, [], ◌∷◌, ◌++◌, length, map, Option, Some, None, Result, Ok, Err, string_bytes}
+use Rattle.std.specs.List.{list_any}
+use Rattle.std.specs.Option.{option_map}
 use Rattle.std.specs.Global.{Vec}
 use Rattle.lin.specs.Regions.{IsInside}
 use Rattle.lin.specs.declared.span.Span1.{Span1}
@@ -22,12 +24,15 @@ use Rattle.lower.specs.declared.fetching.Root.{Root}
 use Rattle.lower.specs.declared.lowering.Lowered.{Lowered}
 use Rattle.lower.specs.declared.inner.Inner.{Inner}
 use Rattle.lower.specs.declared.parties.Party.{Party}
+use Rattle.lower.specs.declared.regions.Laid.{Laid}
 use Rattle.lower.specs.Stored.{FormulaText, StoredText, formula_of, stored_of, stored_functions}
 use Rattle.lower.specs.Regions.{LaidText, laid_of, laid_functions, skeleton_of}
 use Rattle.lower.specs.Fetches.{Entry}
+use Rattle.lower.specs.Asked.{laid_each, unless_same, unless}
+use Rattle.lower.specs.Broken.{Inside, first_over}
 use Rattle.lower.specs.Blocks.{dimensions_of, owned_region}
 use Rattle.lower.specs.Bodies.{IsBody}
-use Rattle.lower.specs.Computed.{AreAllFound, AreFoundIf}
+use Rattle.lower.specs.Computed.{AreAllFound, AreFoundIf, AreFoundIn}
 use Rattle.lower.specs.Homes.{AreAllAtHome}
 use Rattle.lower.specs.Placed.{PlacedText, IsMixedBody, inner_seen}
 use Rattle.lower.specs.Around.{grid_scope}
@@ -230,29 +235,87 @@ AreBodiesBy a all n c line (is ∷ others) (e ∷ es) (p ∷ ps) claims needs wi
     AreAllLines (λ next. IsBodyBy a all n c line next is e p) (λ next m. AreBodiesBy a all (n + 1) (c + m) next others es ps) claims needs windows
 AreBodiesBy a all n c line _ _ _ claims needs windows = ⊥
 
+-- ---- the regions
+
 -- over these regions, which functions are computed inside the loops of each group, at the places of their loops, at all of those at which they are called, over what is
--- needed of them there; and each group's body, claims, need lines and windows are those of a group in whose loops these are computed
-pub record ArePlacedOver (a : Algorithm) (gs : List StoredText) (regions : List (Option LaidText)) (l : Lowered) : Type 0 where
-  pub placed : List (List PlacedText)
+-- needed of them there
+pub record AreInside (a : Algorithm) (gs : List StoredText) (regions : List (Option LaidText)) (placed : List (List PlacedText)) : Type 0 where
   pub homes : AreAllAtHome (rooted true gs regions) (rooted false gs regions) placed
   pub found : AreAllFound a (length (rooted false gs regions)) (rooted true gs regions) (rooted false gs regions) placed
+
+-- the other regions for which the turns of these groups ask, where those are computed inside; None where they ask for the same
+abbrev pub asked : Algorithm → List StoredText → List (Option LaidText) → List (List PlacedText) → Option (List (Option LaidText))
+asked a gs regions placed = unless_same regions (laid_each a (rooted true gs regions) placed gs regions)
+
+-- over these regions the turns ask for others, of which this is said
+pub record Round (a : Algorithm) (gs : List StoredText) (regions : List (Option LaidText)) (P : List (Option LaidText) → Type 0) : Type 0 where
+  pub placed : List (List PlacedText)
+  pub inside : AreInside a gs regions placed
+  pub others : List (Option LaidText)
+  pub asks : asked a gs regions placed ≡ Some others
+  pub further : P others
+
+-- what is computed inside the loops of a group; nothing where a bound is missing
+abbrev pub placed_in : Inside → List PlacedText
+placed_in (Ok is) = is
+placed_in (Err x) = []
+
+abbrev pub is_missing : Inside → Bool
+is_missing (Ok is) = false
+is_missing (Err x) = true
+
+abbrev pub all_known : List (List PlacedText) → List Inside
+all_known placed = map (λ is. Ok is) placed
+
+-- Rounds come from these regions, the first, to those, the last, where these functions are computed inside: as many as may be, or fewer, where over the last ones the turns
+-- ask for no others, or a bound is missing.
+abbrev pub Come : Algorithm → List StoredText → ℕ → List (Option LaidText) → List (Option LaidText) → List Inside → Type 0
+Come a gs zero first last inside = last ≡ first
+Come a gs (suc n) first last inside =
+    ((last ≡ first) × (unless (list_any is_missing inside) (asked a gs first (map placed_in inside)) ≡ None)) ⊎ Round a gs first (λ others. Come a gs n others last inside)
+
+-- of each group that are computed inside which are; where a bound is missing, of which function
+abbrev pub AreAllFoundIf : Algorithm → ℕ → List Entry → List Entry → List Inside → Type 0
+AreAllFoundIf a n [] es inside = Unit {0}
+AreAllFoundIf a n (e ∷ rest) es [] = ⊥
+AreAllFoundIf a n (e ∷ rest) es (i ∷ inside) = AreFoundIn a e es n [] i × AreAllFoundIf a n rest es inside
+
+-- how many rounds there may be: as many as there are stored functions, but none where each is a root function
+abbrev pub all_rooted : List StoredText → Bool
+all_rooted [] = true
+all_rooted (g ∷ gs) = g.subject.is_root && all_rooted gs
+
+abbrev pub rounds : List StoredText → ℕ
+rounds gs = if all_rooted gs then 0 else length gs
+
+-- ---- what the groups do
+
+-- over these regions, which functions are computed inside the loops of each group; and each group's body, claims, need lines and windows are those of a group in whose loops
+-- these are computed
+pub record ArePlacedOver (a : Algorithm) (gs : List StoredText) (regions : List (Option LaidText)) (l : Lowered) : Type 0 where
+  pub placed : List (List PlacedText)
+  pub stand : AreInside a gs regions placed
   pub bodies : AreBodiesBy a (rooted true gs regions) 0 0 4 placed (rooted true gs regions) l.plan.groups.items l.certificate.claims.items l.certificate.needs.items
       l.certificate.windows.items
 
--- over some regions, with the loops of the skeletons over these, of which the pieces of each group own their blocks
-pub record ArePlaced (a : Algorithm) (gs : List StoredText) (l : Lowered) : Type 0 where
+-- over some regions, to which rounds come from these ones, and over which no function breaks a rule, with the loops of the skeletons over them, of which the pieces of each
+-- group own their blocks
+pub record ArePlacedFrom (a : Algorithm) (gs : List StoredText) (n : ℕ) (first : List (Option LaidText)) (l : Lowered) : Type 0 where
   pub regions : List (Option LaidText)
   pub laid : AreLaid gs regions
   pub around : AreOverRegions gs regions
   pub over : AreMade (rooted true gs regions) 0 l.plan.groups.items l.certificate.own.items
   pub inside : ArePlacedOver a gs regions l
+  pub come : Come a gs n first regions (all_known inside.placed)
+  pub kept : first_over a gs None regions (all_known inside.placed) ≡ None
 
 -- ---- the plan
 
 -- the plan's head is the algorithm's; the stored root functions have the groups, and the certificate tells of each what its pieces own; where each stored function is a root function
 -- that is computed at no loop, the regions are those that are needed, the pieces own the blocks of their parallel loops and do what the skeletons say, the claims
--- and need lines are theirs, and there are no windows; and whatever is computed inside loops, each group is that of some functions that are
-pub record HasGroups (a : Algorithm) (gs : List StoredText) (l : Lowered) : Type 0 where
+-- and need lines are theirs, and there are no windows; and whatever is computed inside loops, each group is that of some functions that are, over the regions for which all
+-- turns ask: rounds, at most so many, come to them from these ones
+pub record HasGroupsFrom (a : Algorithm) (gs : List StoredText) (n : ℕ) (first : List (Option LaidText)) (l : Lowered) : Type 0 where
   pub head : IsHeadOf a l.plan
   pub each : AreGroupsOf (root_functions gs) l.plan.groups.items
   pub owned : AreOwned 0 l.plan.groups.items l.certificate.own.items
@@ -260,7 +323,11 @@ pub record HasGroups (a : Algorithm) (gs : List StoredText) (l : Lowered) : Type
   pub blocks : are_whole gs ≡ true → HaveBlocks gs l.plan.groups.items l.certificate.own.items
   pub bodies : are_whole gs ≡ true → HaveBodies a (roots_over a gs) 0 0 4 gs l.plan.groups.items l.certificate.claims.items l.certificate.needs.items
   pub windows : are_whole gs ≡ true → l.certificate.windows.items ≡ []
-  pub placed : ArePlaced a gs l
+  pub placed : ArePlacedFrom a gs n first l
+
+-- from the regions that are needed of the loops over whole functions on
+abbrev pub HasGroups : Algorithm → List StoredText → Lowered → Type 0
+HasGroups a gs l = HasGroupsFrom a gs (rounds gs) (laid_functions a gs) l
 
 abbrev pub AreGroupsMade : Algorithm → Schedule → Lowered → Type 0
 AreGroupsMade a s l = HasGroups a (stored_functions a s) l
@@ -273,6 +340,9 @@ root_of r = (stored_of r.stored.now, laid_of r.laid.now, map formula_of r.formul
 
 abbrev pub party_of : Party → Entry
 party_of p = root_of p.root
+
+abbrev pub all_laid : Vec (Option Laid) → List (Option LaidText)
+all_laid v = map (option_map laid_of) v.items
 
 -- nothing is computed inside its loops
 abbrev pub HasNone : Result (Vec Inner) (List ℕ) → Type 0
@@ -317,6 +387,14 @@ abbrev pub AreKnown : List Party → Type 0
 AreKnown [] = Unit {0}
 AreKnown (p ∷ ps) = IsKnown p.inners × AreKnown ps
 
+-- the same, or the name of a function of which a bound is missing
+abbrev pub inside_of : Result (Vec Inner) (List ℕ) → Inside
+inside_of (Err x) = Err x
+inside_of (Ok v) = Ok (map inner_seen v.items)
+
+abbrev pub inside_at : Party → Inside
+inside_at p = inside_of p.inners
+
 -- of each party those of these functions, so many, that are computed inside its loops
 abbrev pub AreFoundOf : Algorithm → ℕ → List Entry → List Party → Type 0
 AreFoundOf a n es [] = Unit {0}
@@ -351,8 +429,9 @@ pub record GroupsBy (a : Algorithm) (all : List Entry) (n c line : ℕ) (placed 
   pub held : new.windows.items ≡ old.windows.items ++ windows
   pub are : AreBodiesBy a all n c line placed es ps claims needs windows
 
--- the plan of these functions over these regions
-pub record IsPlanOf (a : Algorithm) (gs : List StoredText) (ls : List (Option LaidText)) (l : Lowered) : Type 0 where
+-- the plan of these functions over these regions, in whose groups these are computed inside
+pub record IsPlanOf (a : Algorithm) (gs : List StoredText) (ls : List (Option LaidText)) (ps : List Party) (l : Lowered) : Type 0 where
+  pub known : AreKnown ps
   pub head : IsHeadOf a l.plan
   pub laid : AreLaid gs ls
   pub around : AreOverRegions gs ls
@@ -360,3 +439,9 @@ pub record IsPlanOf (a : Algorithm) (gs : List StoredText) (ls : List (Option La
   pub bodies : are_whole gs ≡ true → AreBodies a (rooted true gs ls) 0 0 4 (rooted true gs ls) l.plan.groups.items l.certificate.claims.items l.certificate.needs.items
   pub windows : are_whole gs ≡ true → l.certificate.windows.items ≡ []
   pub placed : ArePlacedOver a gs ls l
+  pub are : placed.placed ≡ map placed_of ps
+
+-- it has these groups, and no function breaks a rule over these regions
+pub record IsKeptPlan (a : Algorithm) (gs : List StoredText) (ls : List (Option LaidText)) (ps : List Party) (l : Lowered) : Type 0 where
+  pub plan : IsPlanOf a gs ls ps l
+  pub kept : first_over a gs None ls (map inside_at ps) ≡ None

@@ -1,7 +1,9 @@
 pub mod Around
+pub mod Asked
 pub mod Blocks
 pub mod Bodies
 pub mod Bounded
+pub mod Broken
 pub mod Counted
 pub mod Called
 pub mod Computed
@@ -27,6 +29,7 @@ pub mod Refused
 pub mod Regions
 pub mod Renamed
 pub mod Rounded
+pub mod Seats
 pub mod Settled
 pub mod Slid
 pub mod Stored

@@ -40,13 +40,14 @@ use Rattle.lower.specs.Renamed.{Pairs, value_in, own_pairs, places_renamed, regi
 -- ---- what is placed
 
 -- the turns after the first one of a function that slides: the symbol of the loop and the dimension along which it does, the forms of which the least is the first
--- new number, the symbol that stands for that, what stands around its nests over what is new, and these
+-- new number, the symbol that stands for that, what stands around its nests over what is new, what that is, and these
 pub record LaterText : Type 0 where
   pub symbol : ℕ
   pub dimension : ℕ
   pub first_new : List Form
   pub new : ℕ
   pub scope : List Binding
+  pub region : List Span1
   pub nests : List NestText
 
 -- a function that is computed inside loops: where, and where its buffer stands, with its places; what is needed of it there, and of what its claims speak; the lets
@@ -63,6 +64,8 @@ pub record PlacedText : Type 0 where
   pub scope : List Binding
   pub nests : List NestText
   pub later : Option LaterText
+  pub fits : Bool
+  pub is_small : Bool
 
 -- the function whose nests are made: which of the nests they are, of what its claims speak, and its buffer
 pub record OwnerText : Type 0 where
@@ -397,7 +400,7 @@ pub record IsMixedBody (all : List Entry) (n c line next : ℕ) (is : List Place
 -- ---- as memory keeps them
 
 abbrev pub later_seen : Later → LaterText
-later_seen l = record { symbol = l.symbol; dimension = l.dimension; first_new = l.first_new; new = length l.scope - 1; scope = l.scope; nests = map nest_seen l.nests.items }
+later_seen l = record { symbol = l.symbol; dimension = l.dimension; first_new = l.first_new; new = length l.scope - 1; scope = l.scope; region = l.region; nests = map nest_seen l.nests.items }
 
 abbrev pub inner_seen : Inner → PlacedText
 inner_seen i = record {
@@ -412,6 +415,8 @@ inner_seen i = record {
   scope = i.scope;
   nests = map nest_seen i.nests.items;
   later = option_map later_seen i.later;
+  fits = i.fits;
+  is_small = i.is_small;
 }
 
 abbrev pub owner_seen : Owner → OwnerText

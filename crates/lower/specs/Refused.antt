@@ -1,5 +1,5 @@
 -- Why an algorithm and a schedule give no plan.
-use Rattle.std.specs.Prelude.{◌≡◌, ◌⊎◌, ℕ, true, false, List, Option, Some, None, Result, Ok, Err}
+use Rattle.std.specs.Prelude.{◌≡◌, ◌⊎◌, ℕ, true, false, List, length, map, Option, Some, None, Result, Ok, Err}
 use Rattle.lin.specs.declared.form.LinError.{LinError}
 use Rattle.lin.specs.declared.form.LinError.TheVariants as form
 use Rattle.meaning.specs.Algorithm.{Algorithm}
@@ -18,7 +18,10 @@ use Rattle.lower.specs.Large.{IsToldOf}
 use Rattle.lower.specs.Faults.{are_whole, region_fault}
 use Rattle.lower.specs.Planned.{unplanned}
 use Rattle.lower.specs.Uses.{AreUsedInside, is_used_at}
-use Rattle.lower.specs.Groups.{HasGroups}
+use Rattle.lower.specs.Groups.{HasGroupsFrom, AreAllFoundIf, Come, placed_in, rooted, rounds}
+use Rattle.lower.specs.Homes.{AreAllAtHome}
+use Rattle.lower.specs.Broken.{Inside, first_over}
+use Rattle.lower.specs.Regions.{LaidText, laid_functions}
 use Rattle.sched.specs.Legal as sched
 use Rattle.sched.specs.declared.skeleton.SkeletonError.{SkeletonError}
 use Rattle.sched.specs.declared.skeleton.SkeletonError.TheVariants as skeleton
@@ -40,6 +43,31 @@ KeepsRegions a gs = are_whole gs ≡ true → (region_fault a gs ≡ None) × (u
 abbrev pub IsFirst : Algorithm → List StoredText → RegionRule → List ℕ → Type 0
 IsFirst a gs r x = are_whole gs ≡ true → (region_fault a gs ≡ Some (r, x)) ⊎ ((r ≡ rule.Unbounded) × (region_fault a gs ≡ None) × (unplanned a gs ≡ Some x))
 
+-- but for L6, over these regions it is the first function that breaks a rule, and the rule of the lowest number; or none does, and L12 is told, since the lines of a group can't be
+-- written
+abbrev pub IsFirstOver : Algorithm → List StoredText → Option (Rule × List ℕ) → List (Option LaidText) → List Inside → RegionRule → List ℕ → Type 0
+IsFirstOver a gs o ls inside rule.OutsideUse x = Unit {0}
+IsFirstOver a gs o ls inside rule.ShortShift x = first_over a gs o ls inside ≡ Some (rule.ShortShift, x)
+IsFirstOver a gs o ls inside rule.SmallFold x = first_over a gs o ls inside ≡ Some (rule.SmallFold, x)
+IsFirstOver a gs o ls inside rule.TooLarge x = first_over a gs o ls inside ≡ Some (rule.TooLarge, x)
+IsFirstOver a gs o ls inside rule.TooMuch x = first_over a gs o ls inside ≡ Some (rule.TooMuch, x)
+IsFirstOver a gs o ls inside rule.Unbounded x = (first_over a gs o ls inside ≡ Some (rule.Unbounded, x)) ⊎ ((o ≡ None) × (first_over a gs o ls inside ≡ None))
+
+-- over the regions to which so many rounds come from these ones, where these functions are computed inside, unless of one a bound is missing
+pub record IsFirstFrom (a : Algorithm) (gs : List StoredText) (n : ℕ) (first : List (Option LaidText)) (o : Option (Rule × List ℕ)) (r : RegionRule) (x : List ℕ) : Type 0 where
+  pub regions : List (Option LaidText)
+  pub inside : List Inside
+  pub homes : AreAllAtHome (rooted true gs regions) (rooted false gs regions) (map placed_in inside)
+  pub found : AreAllFoundIf a (length (rooted false gs regions)) (rooted true gs regions) (rooted false gs regions) inside
+  pub come : Come a gs n first regions inside
+  pub over : IsFirstOver a gs o regions inside r x
+
+-- where this is the first rule that asks for no region and is broken, or none is
+pub record IsFirstIn (a : Algorithm) (s : Schedule) (r : RegionRule) (x : List ℕ) : Type 0 where
+  pub fault : Option (Rule × List ℕ)
+  pub is : sched.IsFault a s fault
+  pub first : IsFirstFrom a (stored_functions a s) (rounds (stored_functions a s)) (laid_functions a (stored_functions a s)) fault r x
+
 abbrev pub AreRegionsKept : Algorithm → Schedule → Type 0
 AreRegionsKept a s = KeepsRegions a (stored_functions a s)
 
@@ -51,12 +79,12 @@ AreUsesInside a s = AreUsedInside (stored_functions a s)
 -- is used outside of the loop at which it is computed, or in a definition that lacks it, and another rule that asks for a region only where neither its
 -- function nor one before it is. L11 for a definition is told only of the first stored function
 -- of which one passes the limits. The other rules that ask for a region are told only where no directive breaks one of L1 to L5 and, but for L6, no
--- definition of the function or of one before it passes the limits; where each stored function is a root function, only the first that is broken,
--- of the first function that breaks one.
+-- definition of the function or of one before it passes the limits; and only the first that is broken, of the first function that breaks one: over the regions that all turns
+-- ask for, and, of a function that is computed inside loops, over what is needed of it wherever it is computed.
 abbrev pub IsRefused : Algorithm → Schedule → LowerError → Type 0
 IsRefused a s error.Memory = Unit {0}
 IsRefused a s (error.Schedule e) = sched.IsRefused a s e
-IsRefused a s (error.Broken r x) = IsFollowed a s × IsToldOf (stored_functions a s) r x × IsFirst a (stored_functions a s) r x
+IsRefused a s (error.Broken r x) = IsFollowed a s × IsToldOf (stored_functions a s) r x × IsFirst a (stored_functions a s) r x × IsFirstIn a s r x
 
 -- it is the first rule that asks for no region and is broken
 abbrev pub IsThat : Option (Rule × List ℕ) → SchedError → Type 0
@@ -64,12 +92,20 @@ IsThat o (refusal.Broken r x) = o ≡ Some (r, x)
 IsThat o e = ⊥
 
 -- a plan comes only where no such rule is broken, no definition passes the limits, no rule is broken by a region, and no function is used outside of
--- its loop; it has the groups
+-- its loop; of it this is said, and that of a rule that asks for a region
+abbrev pub AnswersBy : Algorithm → List StoredText → (Lowered → Type 0) → (RegionRule → List ℕ → Type 0) → Option (Rule × List ℕ) → Result Lowered LowerError → Type 0
+AnswersBy a gs P Q o (Ok l) = (o ≡ None) × (has_large gs ≡ false) × KeepsRegions a gs × P l × AreUsedInside gs
+AnswersBy a gs P Q o (Err error.Memory) = Unit {0}
+AnswersBy a gs P Q o (Err (error.Schedule e)) = IsThat o e
+AnswersBy a gs P Q o (Err (error.Broken r x)) = IsToldOf gs r x × IsFirst a gs r x × Q r x
+
+-- it has the groups over the regions to which so many rounds come from these ones
+abbrev pub AnswersFrom : Algorithm → List StoredText → ℕ → List (Option LaidText) → Option (Rule × List ℕ) → Result Lowered LowerError → Type 0
+AnswersFrom a gs n first o r = AnswersBy a gs (HasGroupsFrom a gs n first) (IsFirstFrom a gs n first o) o r
+
+-- as many rounds as there may be, from the regions that are needed of the loops over whole functions
 abbrev pub Answers : Algorithm → List StoredText → Option (Rule × List ℕ) → Result Lowered LowerError → Type 0
-Answers a gs o (Ok l) = (o ≡ None) × (has_large gs ≡ false) × KeepsRegions a gs × HasGroups a gs l × AreUsedInside gs
-Answers a gs o (Err error.Memory) = Unit {0}
-Answers a gs o (Err (error.Schedule e)) = IsThat o e
-Answers a gs o (Err (error.Broken r x)) = IsToldOf gs r x × IsFirst a gs r x
+Answers a gs o r = AnswersFrom a gs (rounds gs) (laid_functions a gs) o r
 
 -- no plan was made, and no rule is told but that bounds are missing
 abbrev pub IsUnplanned : LowerError → Type 0

@@ -96,6 +96,10 @@ module _ (t : TrackText) where
 
 -- ---- where it may slide
 
+abbrev pub dimension_along : Option (TrackText × ℕ) → Option ℕ
+dimension_along None = None
+dimension_along (Some x) = Some x.1
+
 abbrev pub unless_scattered : StoredText → TrackText → ℕ → Option (TrackText × ℕ)
 unless_scattered g t d = if is_scattered g d then None else Some (t, d)
 
@@ -246,6 +250,7 @@ pub record IsLater (g : StoredText) (fs : List FormulaText) (kept : Option (List
   pub along : slice_get h x.1 ≡ Some span
   pub first_new : new_from x.0.symbol span ≡ Some l.first_new
   pub scoped : l.scope ≡ scope ++ LetMin l.first_new ∷ []
+  pub new : l.region ≡ new_region scope x.1 0 h
   pub nested : nests_kept g fs l.scope (new_region scope x.1 0 h) kept ≡ Some l.nests
 
 abbrev pub HasLater : StoredText → List FormulaText → Option (List Span1) → TrackText × ℕ → List Binding → List Span1 → Option LaterText → Type 0

@@ -4,6 +4,7 @@ ghost use Rattle.std.specs.Prelude.{◌≡◌, [], IfOk, OnOk, Some, map, slice_
 ghost use Rattle.algo.specs.View.{algorithm_of};
 ghost use Rattle.sched.specs.Skeleton.{nest_seen};
 ghost use Rattle.lower.specs.Bounded.{whole as whole_of};
+ghost use Rattle.lower.specs.Broken as broken;
 ghost use Rattle.lower.specs.Demanded as spec;
 ghost use Rattle.lower.specs.Groups.{root_of};
 ghost use Rattle.lower.specs.Guarded as guarded;
@@ -576,13 +577,34 @@ pub(crate) fn needed_at<'a>(
     }
 }
 
-// Whether a region has no more numbers in a dimension than a function may have.
-pub(crate) fn is_small(alloc: Global, scope: &Scope, region: &Region) -> Result<bool, AllocError> {
-    for span in region.as_slice() {
-        match shortest(alloc, scope, span)? {
-            Some((_, count)) if count <= i64::from(MOST_NUMBERS) => {}
-            _ => return Ok(false),
+// Whether a dimension has no more numbers than a function may have.
+fn is_small_span(alloc: Global, scope: &Scope, span: &Span1) -> Result<bool, AllocError>
+    ensures { IfOk result (λ yes. yes ≡ broken.is_small_span scope.now span.now) }
+{
+    match shortest(alloc, scope, span)? {
+        Some((_, count)) => Ok(count <= i64::from(MOST_NUMBERS)),
+        None => Ok(false),
+    }
+}
+
+fn are_small_spans(alloc: Global, scope: &Scope, spans: &[Span1]) -> Result<bool, AllocError>
+    ensures { IfOk result (λ yes. yes ≡ broken.is_small scope.now spans.now) }
+{
+    match spans {
+        [] => Ok(true),
+        [span, rest @ ..] => {
+            if is_small_span(alloc, scope, span)? {
+                are_small_spans(alloc, scope, rest)
+            } else {
+                Ok(false)
+            }
         }
     }
-    Ok(true)
+}
+
+/// Whether a region has no more numbers in a dimension than a function may have.
+pub(crate) fn is_small(alloc: Global, scope: &Scope, region: &Region) -> Result<bool, AllocError>
+    ensures { IfOk result (λ yes. yes ≡ broken.is_small scope.now region.now) }
+{
+    are_small_spans(alloc, scope, region.as_slice())
 }

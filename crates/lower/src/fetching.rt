@@ -6,11 +6,13 @@ ghost use Rattle.tree.specs.Term.{list_terms, indices};
 ghost use Rattle.algo.specs.View.{algorithm_of};
 ghost use Rattle.sched.specs.Skeleton.{nest_seen, skeleton_seen};
 ghost use Rattle.plan.specs.declared.stmt.Places.TheVariants.{From};
+ghost use Rattle.lower.specs.Asked as asked;
 ghost use Rattle.lower.specs.Needs as needs;
 ghost use Rattle.lower.specs.Around.{around_of, grid_scope as grid_scope_of};
 ghost use Rattle.lower.specs.Calls.{call_of};
 ghost use Rattle.lower.specs.Demanded as demanded;
 ghost use Rattle.lower.specs.Fetches.{IsTaken};
+ghost use Rattle.lower.specs.Groups.{root_of};
 ghost use Rattle.lower.specs.Limited.{Tells, TellsIf, Gives};
 ghost use Rattle.lower.specs.Placed.{inner_seen, later_seen};
 ghost use Rattle.lower.specs.Stored.{formula_of, some_calls, stored_of};
@@ -292,6 +294,8 @@ fn add_inners(
     callee: &str,
     sites: &mut Vec<Site>,
 ) -> Result<(), Stop>
+    ensures all { Tells result (map site_of sites.new.items) (asked.add_inners (algorithm_of algo.now) callee.now (map inner_seen inners.now)
+        (map site_of sites.old.items)) }
     ensures made { OnOk result (inners.now ≡ [] → sites.new ≡ sites.old) }
     ensures told { inners.now ≡ [] → TellsIf result true }
 {
@@ -312,7 +316,8 @@ pub(crate) fn sites_of(
     inners: &[Inner<'_>],
     callee: &str,
 ) -> Result<Vec<Site>, Stop>
-    ensures { inners.now ≡ [] → Gives result (λ v. map site_of v.items) (spec.sites_of (algorithm_of algo.now) (stored_of user.now.stored.now)
+    ensures all { Gives result (λ v. map site_of v.items) (asked.sites_in (algorithm_of algo.now) callee.now (root_of user.now) (map inner_seen inners.now)) }
+    ensures own { inners.now ≡ [] → Gives result (λ v. map site_of v.items) (spec.sites_of (algorithm_of algo.now) (stored_of user.now.stored.now)
         (map formula_of user.now.formulas.now) (skeleton_seen user.now.laid.now.skeleton) callee.now) }
 {
     let mut sites = Vec::new(alloc);

@@ -9,9 +9,10 @@ ghost use Rattle.lower.specs.Computed as computed;
 ghost use Rattle.lower.specs.Demanded as demanded;
 ghost use Rattle.lower.specs.Groups.{inners_of as placed_inners, root_of};
 ghost use Rattle.lower.specs.Homes as spec;
+ghost use Rattle.lower.specs.Limited.{Gives};
 ghost use Rattle.lower.specs.Parted.{kept_region as kept_region_of};
 ghost use Rattle.lower.specs.Placed.{inner_seen, later_seen};
-ghost use Rattle.lower.specs.Rounded.{lain_kept};
+ghost use Rattle.lower.specs.Rounded.{lain_kept, lain_seen};
 ghost use Rattle.lower.specs.Slid as slid;
 ghost use Rattle.lower.specs.Stored.{formula_of, stored_of};
 ghost use Rattle.lower.specs.Taken.{site_of};
@@ -21,10 +22,10 @@ use crate::demand::{is_scattered, is_small, needed_at, sites_at};
 use crate::ends::Needed;
 use crate::error::Stop;
 use crate::fetching::{Root, Site};
-use crate::parts::is_same_spot;
+use crate::parts::{fold_of, is_same_spot};
 use crate::rounded::{Lain, claim_of, lain_over};
 use crate::sliding::{
-    Later, Sliding, fold_of, folded, folds_fit, held_region, later_of, sliding_dimension, track_of,
+    Later, Sliding, folded, folds_fit, held_region, later_of, sliding_dimension, track_of,
 };
 use crate::spots::{
     Host, Hosted, Spot, home_of, host_at, hosts_named, is_over_grid, scope_at, spot_in, steps_at,
@@ -67,7 +68,9 @@ pub struct Inner<'a> {
 
 // ---- functions
 
-fn dimension_of(sliding: &Option<Sliding>) -> Option<usize> {
+fn dimension_of(sliding: &Option<Sliding>) -> Option<usize>
+    ensures { result ≡ slid.dimension_along (option_map slid.sliding_seen sliding.now) }
+{
     match sliding {
         Some(sliding) => Some(sliding.dimension),
         None => None,
@@ -83,7 +86,10 @@ fn seated_at(
     later: &Option<Later>,
     sites: &[Site],
     along: Option<usize>,
-) -> Result<Vec<Places>, Stop> {
+) -> Result<Vec<Places>, Stop>
+    ensures { Gives result (λ v. v.items) (computed.seated (stored_of root.now.stored.now) outer.now lain.now.scope (lain_seen lain.now)
+        (option_map later_seen later.now) (map site_of sites.now) along) }
+{
     let arms = Arms {
         scope: &lain.scope,
         nests: &lain.nests,
@@ -91,7 +97,7 @@ fn seated_at(
     };
     let seats = kept_region(alloc, outer, &lain.scope, &lain.begun.region)?;
     let places = storage_of(alloc, outer, arms, sites, &seats)?;
-    Ok(folded(alloc, places, along, fold_of(root))?)
+    Ok(folded(places, along, fold_of(&root.stored.placed.folds)))
 }
 
 // The dimension in which a region slides along the innermost loop of the steps. What an update scatters does not slide.
@@ -246,6 +252,19 @@ fn turns_of(
     turns_along(alloc, functions, root, outer, scope, region, sliding)
 }
 
+// Whether one turn needs no more numbers of a dimension than a function may have, nor do all for which its buffer stands.
+fn are_small(
+    alloc: Global,
+    scope: &Scope,
+    region: &Region,
+    outer: &Scope,
+    kept: &Region,
+) -> Result<bool, AllocError>
+    ensures { IfOk result (λ yes. yes ≡ computed.are_small scope.now region.now outer.now (Some kept.now)) }
+{
+    Ok(is_small(alloc, scope, region)? && is_small(alloc, outer, kept)?)
+}
+
 // The function at these places, over what is needed of it where these sites call it.
 #[tactic(auto, using(crate::proofs::Along::is_lain))]
 fn inner_of<'a>(
@@ -268,6 +287,11 @@ fn inner_of<'a>(
         (length outer.now) around.now needed.now (option_map slid.sliding_seen sliding.now) one.region (option_map later_seen one.later)) }
     ensures lain { IfOk result (λ one. computed.IsLain (lain_kept (algorithm_of algo.now) (stored_of root.now.stored.now) (map formula_of root.now.formulas.now)
         around.now one.region (kept_region_of (length outer.now) around.now one.region)) (inner_seen one)) }
+    ensures judged { IfOk result (λ one. computed.IsJudged (stored_of root.now.stored.now) outer.now around.now needed.now
+        (option_map slid.sliding_seen sliding.now) (inner_seen one)) }
+    ensures seated { IfOk result (λ one. computed.IsSeated (stored_of root.now.stored.now) outer.now (map site_of sites.now)
+        (option_map slid.sliding_seen sliding.now) (lain_kept (algorithm_of algo.now) (stored_of root.now.stored.now) (map formula_of root.now.formulas.now)
+        around.now one.region (kept_region_of (length outer.now) around.now one.region)) (inner_seen one)) }
 {
     let (home, store) = spots;
     let (region, later) = turns_of(alloc, functions, root, outer, around, needed, sliding)?;
@@ -281,7 +305,7 @@ fn inner_of<'a>(
     let along = dimension_of(sliding);
     let places = seated_at(alloc, root, outer, &lain, &later, sites, along)?;
     let fits = folds_fit(alloc, root, &lain.scope, needed, along)?;
-    let is_small = is_small(alloc, &lain.scope, needed)? && is_small(alloc, outer, &kept)?;
+    let is_small = are_small(alloc, &lain.scope, needed, outer, &kept)?;
     let claimed = claim_of(alloc, root, &lain.scope, &region, &lain.begun, &lain.nests)?;
     let Lain {
         scope,
@@ -556,7 +580,7 @@ fn found_inside<'a>(
 }
 
 // These, and behind them the functions before this number that are computed inside the loops, the last declared first.
-#[tactic(auto, using(crate::proofs::Hosts::more_at_home, crate::proofs::Along::found_last, crate::proofs::Along::none_more, crate::proofs::Along::found_more))]
+#[tactic(auto, using(crate::proofs::Hosts::more_at_home, crate::proofs::Along::found_last, crate::proofs::Along::none_more, crate::proofs::Along::found_more, crate::proofs::Along::found_missing))]
 fn inners_before<'a>(
     alloc: Global,
     algo: &Algo,

@@ -1,6 +1,7 @@
 //! The rules of schedules that ask what a function's loops run over.
 
-ghost use Rattle.std.specs.Prelude.{◌≡◌, ◌++◌, IfOk, OnOk, true, false, map};
+ghost use Rattle.std.specs.Prelude.{◌≡◌, ◌++◌, IfOk, OnOk, true, false, map, take};
+ghost use Rattle.std.specs.List.{list_any};
 ghost use Rattle.std.specs.Option.{option_map};
 ghost use Rattle.tree.specs.Term.{term_of, list_terms, indices};
 ghost use Rattle.algo.specs.View.{algorithm_of};
@@ -12,7 +13,9 @@ ghost use Rattle.lower.specs.Calls.{call_of};
 ghost use Rattle.lower.specs.Around.{around_of};
 ghost use Rattle.lower.specs.Regions.{laid_of};
 ghost use Rattle.lower.specs.Bounded as spec;
+ghost use Rattle.lower.specs.Broken as broken;
 ghost use Rattle.lower.specs.Faults as faults;
+ghost use Rattle.lower.specs.Groups.{inside_at};
 ghost use Rattle.lower.specs.Uses.{FindsUse, is_use, is_used_outside};
 
 use crate::calls::{Call, calls_of};
@@ -345,8 +348,26 @@ fn fault_within(
     }
 }
 
+// The rule of the lowest number that a function of this region breaks: a root function over that, another one wherever it is computed.
+fn fault_of_kind(
+    alloc: Global,
+    algo: &Algo,
+    root: &Root<'_>,
+    parties: &[Party<'_>],
+    totals: Totals,
+) -> Result<Option<RegionRule>, AllocError>
+    ensures kind { IfOk result IsByRegion }
+    ensures rule { IfOk result (λ rule. rule ≡ broken.fault_of_kind (algorithm_of algo.now) (map inside_at parties.now) totals
+        (stored_of root.now.stored.now) (map formula_of root.now.formulas.now) (laid_of root.now.laid.now)) }
+{
+    if root.stored.subject.is_root {
+        fault_within(alloc, algo, root, totals.joined(root.laid))
+    } else {
+        fault_inside(alloc, algo, root.stored.subject.name.as_str(), parties)
+    }
+}
+
 // The rule that a function of these definitions breaks. Where others may have left it without a region, none is missed.
-#[tactic(auto, using(crate::proofs::First::unless_root))]
 fn fault_by_region(
     alloc: Global,
     algo: &Algo,
@@ -354,15 +375,15 @@ fn fault_by_region(
     formulas: &[Formula],
     laid: Option<&Laid>,
     parties: &[Party<'_>],
-    has_large: bool,
+    is_missed: bool,
     totals: Totals,
 ) -> Result<Option<RegionRule>, AllocError>
     ensures kind { IfOk result IsByRegion }
-    ensures rule { IfOk result (λ rule. faults.is_whole (stored_of stored.now) ≡ true → rule ≡ faults.fault_by_region (algorithm_of algo.now)
-        has_large totals (stored_of stored.now) (map formula_of formulas.now) (option_map (λ l. laid_of l.now) laid.entry)) }
+    ensures rule { IfOk result (λ rule. rule ≡ broken.fault_over (algorithm_of algo.now) (map inside_at parties.now) is_missed totals
+        (stored_of stored.now) (map formula_of formulas.now) (option_map (λ l. laid_of l.now) laid.entry)) }
 {
     let Some(laid) = laid else {
-        return Ok(if has_large {
+        return Ok(if is_missed {
             None
         } else {
             Some(RegionRule::Unbounded)
@@ -373,40 +394,37 @@ fn fault_by_region(
         formulas,
         laid,
     };
-    if !stored.subject.is_root {
-        return fault_inside(alloc, algo, &root, parties);
-    }
-    fault_within(alloc, algo, &root, totals.joined(laid))
+    fault_of_kind(alloc, algo, &root, parties, totals)
 }
 
 // The rule that a function breaks.
-#[tactic(auto, using(crate::proofs::Sizes::fault_of_small, crate::proofs::Sizes::small_at, crate::proofs::Sizes::large_at, crate::proofs::First::fault_found, crate::proofs::First::fault_large, crate::proofs::Outsides::by_region))]
+#[tactic(auto, using(crate::proofs::Sizes::fault_of_small, crate::proofs::Sizes::small_at, crate::proofs::Sizes::large_at, crate::proofs::Breaking::fault_found, crate::proofs::Breaking::fault_large, crate::proofs::Outsides::by_region))]
 fn fault_of(
     alloc: Global,
     algo: &Algo,
     stored: &Stored<'_>,
     laid: Option<&Laid>,
     parties: &[Party<'_>],
-    has_large: bool,
+    is_missed: bool,
     totals: Totals,
 ) -> Result<Option<RegionRule>, AllocError>
     ensures kind { IfOk result (IsFault (stored_of stored.now)) }
-    ensures rule { IfOk result (λ rule. faults.is_whole (stored_of stored.now) ≡ true → rule ≡ faults.fault_of (algorithm_of algo.now)
-        has_large totals (stored_of stored.now) (option_map (λ l. laid_of l.now) laid.entry)) }
+    ensures rule { IfOk result (λ rule. rule ≡ broken.fault_of (algorithm_of algo.now) (map inside_at parties.now) is_missed totals
+        (stored_of stored.now) (option_map (λ l. laid_of l.now) laid.entry)) }
     ensures other { IfOk result (λ rule. is_use rule ≡ false) }
 {
     match &stored.formulas {
         None => Ok(Some(RegionRule::TooLarge)),
         Some(formulas) => {
             fault_by_region(
-                alloc, algo, stored, formulas, laid, parties, has_large, totals,
+                alloc, algo, stored, formulas, laid, parties, is_missed, totals,
             )
         }
     }
 }
 
 // The rule that one of all functions breaks: a use outside of its loop, or one by its region.
-#[tactic(auto, using(crate::proofs::Outsides::no_use_told))]
+#[tactic(auto, using(crate::proofs::Outsides::no_use_told, crate::proofs::Breaking::used_outside, crate::proofs::Breaking::not_used))]
 fn rule_broken<'a>(
     alloc: Global,
     algo: &Algo,
@@ -414,25 +432,24 @@ fn rule_broken<'a>(
     stored: &Stored<'a>,
     laid: Option<&Laid>,
     parties: &[Party<'_>],
-    has_large: bool,
+    is_missed: bool,
     totals: Totals,
 ) -> Result<Option<RegionRule>, AllocError>
     ensures kind { IfOk result (IsFault (stored_of stored.now)) }
-    ensures rule { IfOk result (λ rule. faults.is_whole (stored_of stored.now) ≡ true → rule ≡ faults.fault_of (algorithm_of algo.now)
-        has_large totals (stored_of stored.now) (option_map (λ l. laid_of l.now) laid.entry)) }
+    ensures rule { IfOk result (λ rule. rule ≡ broken.rule_of (algorithm_of algo.now) (map stored_of all.now) (map inside_at parties.now) is_missed totals
+        (stored_of stored.now) (option_map (λ l. laid_of l.now) laid.entry)) }
     ensures uses { IfOk result (λ rule. is_use rule ≡ is_used_outside (map stored_of all.now) (stored_of stored.now)) }
 {
     if has_outside_use(alloc, all, stored)? {
         return Ok(Some(RegionRule::OutsideUse));
     }
-    fault_of(alloc, algo, stored, laid, parties, has_large, totals)
+    fault_of(alloc, algo, stored, laid, parties, is_missed, totals)
 }
 
 // What the root functions have together with one more, where that has definitions and a region.
-#[tactic(auto, using(crate::proofs::First::totals_found, crate::proofs::First::totals_large))]
+#[tactic(auto, using(crate::proofs::Breaking::of_other, crate::proofs::Breaking::of_large, crate::proofs::Breaking::of_found))]
 fn totals_with(totals: Totals, stored: &Stored<'_>, laid: Option<&Laid>) -> Totals
-    ensures { faults.is_whole (stored_of stored.now) ≡ true → result ≡ faults.totals_with totals (stored_of stored.now)
-        (option_map (λ l. laid_of l.now) laid.entry) }
+    ensures { result ≡ broken.totals_of totals (stored_of stored.now) (option_map (λ l. laid_of l.now) laid.entry) }
 {
     if !stored.subject.is_root {
         return totals;
@@ -470,21 +487,21 @@ fn other_laid(laid: &[Option<Laid>]) -> &[Option<Laid>]
 }
 
 // The first of so many functions that breaks a rule, among all stored ones, behind others that have these totals.
-#[tactic(auto, using(crate::proofs::Sizes::found_later, crate::proofs::Sizes::told_here, crate::proofs::Sizes::none_asked, crate::proofs::Sizes::none_there, crate::proofs::First::none_asked, crate::proofs::First::none_there, crate::proofs::Outsides::none_asked, crate::proofs::Outsides::none_there))]
+#[tactic(auto, using(crate::proofs::Sizes::found_later, crate::proofs::Sizes::told_here, crate::proofs::Sizes::none_asked, crate::proofs::Sizes::none_there, crate::proofs::Breaking::none_asked, crate::proofs::Breaking::none_there, crate::proofs::Outsides::none_asked, crate::proofs::Outsides::none_there))]
 fn fault_from<'a>(
     alloc: Global,
     algo: &Algo,
     all: &[Stored<'a>],
     parties: &[Party<'_>],
     count: usize,
-    has_large: bool,
+    is_missed: bool,
     totals: Totals,
     stored: &[Stored<'a>],
     laid: &[Option<Laid>],
 ) -> Result<Option<(RegionRule, Name)>, AllocError>
     ensures sizes { IfOk result (Finds (map stored_of stored.now) count) }
-    ensures first { IfOk result (faults.IsFirstOf (algorithm_of algo.now) has_large totals count
-        (map stored_of stored.now) (map (option_map laid_of) laid.now)) }
+    ensures first { IfOk result (λ found. found ≡ broken.first_from (algorithm_of algo.now) (map stored_of all.now) (map inside_at parties.now) is_missed
+        totals (take count (map stored_of stored.now)) (map (option_map laid_of) laid.now)) }
     ensures uses { IfOk result (FindsUse (map stored_of all.now) (map stored_of stored.now) count) }
 {
     let Some(left) = count.checked_sub(1) else {
@@ -494,13 +511,13 @@ fn fault_from<'a>(
         [] => Ok(None),
         [one, others @ ..] => {
             let first = first_laid(laid);
-            match rule_broken(alloc, algo, all, one, first, parties, has_large, totals)? {
+            match rule_broken(alloc, algo, all, one, first, parties, is_missed, totals)? {
                 Some(rule) => Ok(Some((rule, one.subject.name))),
                 None => {
                     let totals = totals_with(totals, one, first);
                     let rest = other_laid(laid);
                     fault_from(
-                        alloc, algo, all, parties, left, has_large, totals, others, rest,
+                        alloc, algo, all, parties, left, is_missed, totals, others, rest,
                     )
                 }
             }
@@ -529,34 +546,57 @@ fn has_large(stored: &[Stored<'_>]) -> bool
     }
 }
 
+// Whether the rule is that a function is computed at no loop that is there.
+fn is_home_rule(fault: Option<(Rule, Name)>) -> bool
+    ensures { result ≡ broken.is_home_rule fault }
+{
+    match fault {
+        Some((rule, _)) => rule.number() == RegionRule::OutsideUse.number(),
+        None => false,
+    }
+}
+
+// Whether one of these functions leaves others without regions: it is too large, or used outside of the loop at which it is computed.
+fn leave_some<'a>(
+    alloc: Global,
+    all: &[Stored<'a>],
+    stored: &[Stored<'a>],
+) -> Result<bool, AllocError>
+    ensures { IfOk result (λ yes. yes ≡ list_any (broken.leaves (map stored_of all.now)) (map stored_of stored.now)) }
+{
+    match stored {
+        [] => Ok(false),
+        [one, rest @ ..] => {
+            if is_large(one) || has_outside_use(alloc, all, one)? {
+                return Ok(true);
+            }
+            leave_some(alloc, all, rest)
+        }
+    }
+}
+
 // Whether some function leaves others without regions: it is computed at no loop that is there, too large, or used outside of the
 // loop at which it is computed.
 fn leaves_some(
     alloc: Global,
     stored: &[Stored<'_>],
     fault: Option<(Rule, Name)>,
-) -> Result<bool, AllocError> {
-    if let Some((rule, _)) = fault {
-        if rule.number() == RegionRule::OutsideUse.number() {
-            return Ok(true);
-        }
+) -> Result<bool, AllocError>
+    ensures { IfOk result (λ yes. yes ≡ broken.leaves_some (map stored_of stored.now) fault) }
+{
+    if is_home_rule(fault) {
+        return Ok(true);
     }
-    for one in stored {
-        if one.formulas.is_none() || has_outside_use(alloc, stored, one)? {
-            return Ok(true);
-        }
-    }
-    Ok(false)
+    leave_some(alloc, stored, stored)
 }
 
 // The same, where of whole functions only one that is too large does.
-#[tactic(auto, using(crate::proofs::First::unless))]
 fn leaves_others(
     alloc: Global,
     stored: &[Stored<'_>],
     fault: Option<(Rule, Name)>,
 ) -> Result<bool, AllocError>
-    ensures { IfOk result (λ yes. faults.are_whole (map stored_of stored.now) ≡ true → yes ≡ have_large (map stored_of stored.now)) }
+    ensures { IfOk result (λ yes. yes ≡ broken.leaves_others (map stored_of stored.now) fault) }
 {
     if are_whole(stored) {
         return Ok(has_large(stored));
@@ -566,7 +606,6 @@ fn leaves_others(
 
 /// The first of so many functions, in the order of declaration, that breaks a rule, with the rule of the lowest number; behind
 /// them one may break a rule of its placing. A function that is broken may leave others without regions, of which that is not told.
-#[tactic(auto, using(crate::proofs::First::where_large))]
 pub(crate) fn first_fault(
     alloc: Global,
     algo: &Algo,
@@ -577,16 +616,16 @@ pub(crate) fn first_fault(
     fault: Option<(Rule, Name)>,
 ) -> Result<Option<(RegionRule, Name)>, AllocError>
     ensures sizes { IfOk result (Finds (map stored_of stored.now) count) }
-    ensures first { IfOk result (faults.IsFirstOf (algorithm_of algo.now) (have_large (map stored_of stored.now)) faults.no_totals count
-        (map stored_of stored.now) (map (option_map laid_of) laid.now)) }
+    ensures first { IfOk result (λ found. found ≡ broken.first_from (algorithm_of algo.now) (map stored_of stored.now) (map inside_at parties.now)
+        (broken.leaves_others (map stored_of stored.now) fault) faults.no_totals (take count (map stored_of stored.now)) (map (option_map laid_of) laid.now)) }
     ensures uses { IfOk result (FindsUse (map stored_of stored.now) (map stored_of stored.now) count) }
 {
-    let has_large = leaves_others(alloc, stored, fault)?;
+    let is_missed = leaves_others(alloc, stored, fault)?;
     let totals = Totals {
         cells: 0,
         pieces: 0,
     };
     fault_from(
-        alloc, algo, stored, parties, count, has_large, totals, stored, laid,
+        alloc, algo, stored, parties, count, is_missed, totals, stored, laid,
     )
 }

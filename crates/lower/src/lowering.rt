@@ -14,10 +14,10 @@ ghost use Rattle.lower.specs.Faults.{are_whole};
 ghost use Rattle.lower.specs.Heads.{IsDeclared, IsHeadOf};
 ghost use Rattle.lower.specs.Making.{GroupMade};
 ghost use Rattle.lower.specs.Groups.{AreAlone, AreBodies, AreGroupsMade, AreMade, BodiesMade, IsAlone, IsOver, IsOwnOver, IsPlanOf, party_of, root_of, rooted};
-ghost use Rattle.lower.specs.Groups.{AreBodiesBy, AreFoundOf, AreKnown, AreOverRegions, GroupBy, GroupsBy, IsKnown, placed_of as inners_of};
+ghost use Rattle.lower.specs.Groups.{AreBodiesBy, AreFoundOf, AreKnown, AreOverRegions, GroupBy, GroupsBy, IsKeptPlan, IsKnown, all_rooted, inside_at, placed_of as inners_of, rounds};
 ghost use Rattle.lower.specs.Homes.{AreAllAtHome};
 ghost use Rattle.lower.specs.Planned.{TellsOf, first_unplanned, unplanned_at, unplanned_over};
-ghost use Rattle.lower.specs.Refused.{Answers, AreSmall, AreRegionsKept, AreUsesInside, IsRefused, IsUnplanned, IsPlaced};
+ghost use Rattle.lower.specs.Refused.{Answers, AnswersBy, AnswersFrom, AreSmall, AreRegionsKept, AreUsesInside, IsFirstOver, IsRefused, IsUnplanned, IsPlaced};
 
 use crate::definitions::{Stored, stored_functions};
 use crate::error::{LowerError, Stop};
@@ -25,7 +25,7 @@ use crate::fetching::Root;
 use crate::forms::widened;
 use crate::group::{Beginning, Made, group_of};
 use crate::legality::first_fault;
-use crate::parties::{Party, laid_by_turns, parties_of, roots_of, unlaid};
+use crate::parties::{Party, asked_regions, laid_by_turns, parties_of, roots_of, unlaid};
 use crate::regions::{Laid, laid_functions};
 use crate::uses::{are_whole, uses_outside};
 use algo::{Algo, Port};
@@ -256,7 +256,7 @@ fn planned<'a>(
         (map inners_of parties.now) }
     requires found { AreFoundOf (algorithm_of algo.now) (length (rooted false (map stored_of stored.now) (map (option_map laid_of) laid.now)))
         (rooted false (map stored_of stored.now) (map (option_map laid_of) laid.now)) parties.now }
-    ensures made { IfOk result (IsPlanOf (algorithm_of algo.now) (map stored_of stored.now) (map (option_map laid_of) laid.now)) }
+    ensures made { IfOk result (IsPlanOf (algorithm_of algo.now) (map stored_of stored.now) (map (option_map laid_of) laid.now) parties.now) }
     ensures unplanned { IfErr result IsUnplanned }
     ensures told { rooted false (map stored_of stored.now) (map (option_map laid_of) laid.now) ≡ [] →
         TellsOf result (unplanned_over (algorithm_of algo.now) (map stored_of stored.now) (map (option_map laid_of) laid.now)) }
@@ -356,25 +356,79 @@ fn plan_laid<'a>(
     placement: &Placement,
     stored: &'a [Stored<'a>],
     laid: &'a [Option<Laid>],
+    parties: &[Party<'a>],
 ) -> Result<Lowered, LowerError>
     requires laid { are_whole (map stored_of stored.now) ≡ true →
         map (option_map laid_of) laid.now ≡ laid_functions (algorithm_of algo.now) (map stored_of stored.now) }
     requires over { AreOverRegions (map stored_of stored.now) (map (option_map laid_of) laid.now) }
-    ensures { Answers (algorithm_of algo.now) (map stored_of stored.now) placement.now.fault result }
+    requires roots { map party_of parties.now ≡ rooted true (map stored_of stored.now) (map (option_map laid_of) laid.now) }
+    requires alone { rooted false (map stored_of stored.now) (map (option_map laid_of) laid.now) ≡ [] → AreAlone parties.now }
+    requires homes { AreAllAtHome (map party_of parties.now) (rooted false (map stored_of stored.now) (map (option_map laid_of) laid.now))
+        (map inners_of parties.now) }
+    requires found { AreFoundOf (algorithm_of algo.now) (length (rooted false (map stored_of stored.now) (map (option_map laid_of) laid.now)))
+        (rooted false (map stored_of stored.now) (map (option_map laid_of) laid.now)) parties.now }
+    ensures { AnswersBy (algorithm_of algo.now) (map stored_of stored.now)
+        (IsKeptPlan (algorithm_of algo.now) (map stored_of stored.now) (map (option_map laid_of) laid.now) parties.now)
+        (IsFirstOver (algorithm_of algo.now) (map stored_of stored.now) placement.now.fault (map (option_map laid_of) laid.now) (map inside_at parties.now))
+        placement.now.fault result }
 {
-    let parties = parties_of(alloc, algo, stored, laid)?;
     let count = asked(placement, stored.len());
     let fault = placement.fault;
-    if let Some(found) = first_fault(alloc, algo, stored, laid, &parties, count, fault)? {
+    if let Some(found) = first_fault(alloc, algo, stored, laid, parties, count, fault)? {
         return Err(refusal(found));
     }
     if let Some((rule, name)) = placement.fault {
         return Err(broken(alloc, stored, count, rule, name)?);
     }
-    planned(alloc, algo, stored, laid, &parties)
+    planned(alloc, algo, stored, laid, parties)
+}
+
+// The same over these regions, or over those for which the turns of loops ask in their place, asked at most so many times.
+#[tactic(auto, using(crate::proofs::Asking::no_more, crate::proofs::Asking::no_others, crate::proofs::Asking::one_more))]
+fn plan_by_turns(
+    alloc: Global,
+    algo: &Algo,
+    placement: &Placement,
+    stored: &[Stored<'_>],
+    laid: &[Option<Laid>],
+    rounds: usize,
+) -> Result<Lowered, LowerError>
+    requires laid { are_whole (map stored_of stored.now) ≡ true →
+        map (option_map laid_of) laid.now ≡ laid_functions (algorithm_of algo.now) (map stored_of stored.now) }
+    requires once { are_whole (map stored_of stored.now) ≡ true → rounds ≡ 0 }
+    requires over { AreOverRegions (map stored_of stored.now) (map (option_map laid_of) laid.now) }
+    ensures { AnswersFrom (algorithm_of algo.now) (map stored_of stored.now) rounds (map (option_map laid_of) laid.now) placement.now.fault result }
+{
+    let parties = parties_of(alloc, algo, &*stored, &*laid)?;
+    let Some(left) = rounds.checked_sub(1) else {
+        return plan_laid(alloc, algo, placement, &*stored, &*laid, &parties);
+    };
+    match asked_regions(alloc, algo, &*stored, &*laid, &parties)? {
+        Some(others) => plan_by_turns(alloc, algo, placement, &*stored, &others, left),
+        None => plan_laid(alloc, algo, placement, &*stored, &*laid, &parties),
+    }
+}
+
+// Whether each is a root function.
+fn are_rooted(stored: &[Stored<'_>]) -> bool
+    ensures { result ≡ all_rooted (map stored_of stored.now) }
+{
+    match stored {
+        [] => true,
+        [one, rest @ ..] => one.subject.is_root && are_rooted(rest),
+    }
+}
+
+// How many times the turns of loops may be asked.
+#[tactic(auto, using(crate::proofs::Asking::no_rounds, crate::proofs::Asking::as_many_rounds))]
+fn rounds_of(stored: &[Stored<'_>]) -> usize
+    ensures { result ≡ rounds (map stored_of stored.now) }
+{
+    if are_rooted(stored) { 0 } else { stored.len() }
 }
 
 // The plan of the stored functions.
+#[tactic(auto, using(crate::proofs::Laying::needed_over, crate::proofs::Asking::whole_once, crate::proofs::Asking::from_needed))]
 fn plan_stored(
     alloc: Global,
     algo: &Algo,
@@ -383,8 +437,8 @@ fn plan_stored(
 ) -> Result<Lowered, LowerError>
     ensures { Answers (algorithm_of algo.now) (map stored_of stored.now) placement.now.fault result }
 {
-    let laid = laid_all(alloc, algo, stored)?;
-    plan_laid(alloc, algo, placement, stored, &laid)
+    let laid = laid_functions(alloc, algo, stored)?;
+    plan_by_turns(alloc, algo, placement, stored, &laid, rounds_of(stored))
 }
 
 // The plan of a placement.

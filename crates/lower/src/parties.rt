@@ -2,24 +2,32 @@
 //! them ask for.
 
 ghost use Rattle.std.specs.Prelude.{◌≡◌, [], IfOk, IfSome, true, false, None, Some, length, map};
+ghost use Rattle.std.specs.List.{list_any};
 ghost use Rattle.std.specs.Option.{option_map};
 ghost use Rattle.algo.specs.View.{algorithm_of};
+ghost use Rattle.lower.specs.Asked as asked;
+ghost use Rattle.lower.specs.Broken as broken;
 ghost use Rattle.lower.specs.Computed as computed;
 ghost use Rattle.lower.specs.Large.{IsByRegion};
 ghost use Rattle.lower.specs.Stored.{formula_of, stored_of};
-ghost use Rattle.lower.specs.Regions.{laid_of, skeleton_of};
+ghost use Rattle.lower.specs.Limited.{Gives, Tells};
+ghost use Rattle.lower.specs.Placed.{inner_seen, later_seen};
+ghost use Rattle.lower.specs.Regions.{laid_of};
+ghost use Rattle.lower.specs.Taken.{site_of};
 ghost use Rattle.lower.specs.Groups as spec;
 ghost use Rattle.lower.specs.Homes as homes;
 ghost use Rattle.lower.specs.Planned as planned;
 
-use crate::definitions::Stored;
+use crate::definitions::{Formula, Stored};
 use crate::error::Stop;
 use crate::fetching::{Root, Site, sites_of};
 use crate::inner::{Inner, inners_of};
 use crate::legality::is_bounded;
 use crate::regions::{Ends, Laid, add_extents, closed, ends_of, is_same, unreached, widen};
+use crate::sliding::Later;
 use crate::turns::has_short_turn;
 use algo::Algo;
+use lin::{Region, Scope, Span1};
 use sched::RegionRule;
 use std::alloc::{AllocError, Global};
 use tree::token::Name;
@@ -214,35 +222,76 @@ pub(crate) fn unlaid(stored: &[Stored<'_>], laid: &[Option<Laid>]) -> Option<Nam
 
 // ---- rules
 
-// Whether in some turn a loop that is split with `shift` has fewer numbers than a block.
-fn is_short(alloc: Global, inner: &Inner<'_>) -> Result<bool, Stop> {
-    if has_short_turn(alloc, &inner.root, &inner.scope, &inner.region)? {
-        return Ok(true);
-    }
-    match &inner.later {
-        Some(later) => has_short_turn(alloc, &inner.root, &later.scope, &later.region),
+// Whether in some turn after the first one a loop that is split with `shift` has fewer numbers than a block.
+fn is_later_short(alloc: Global, root: &Root<'_>, later: &Option<Later>) -> Result<bool, Stop>
+    ensures { Gives result (λ yes. yes) (broken.is_later_short (stored_of root.now.stored.now) (option_map later_seen later.now)) }
+{
+    match later {
+        Some(later) => has_short_turn(alloc, root, &later.scope, &later.region),
         None => Ok(false),
     }
 }
 
-// Whether each index of the input and of the function itself is shown to lie where it may.
-fn is_inner_bounded(alloc: Global, algo: &Algo, inner: &Inner<'_>) -> Result<bool, Stop> {
-    let root = &inner.root;
-    if !inner.is_small {
-        return Ok(false);
+// The same in any turn.
+fn is_short(alloc: Global, inner: &Inner<'_>) -> Result<bool, Stop>
+    ensures { Gives result (λ yes. yes) (broken.is_short (inner_seen inner.now)) }
+{
+    if has_short_turn(alloc, &inner.root, &inner.scope, &inner.region)? {
+        return Ok(true);
     }
-    if !is_bounded(alloc, algo, root, &inner.scope, &inner.nests, &inner.region)? {
-        return Ok(false);
-    }
+    is_later_short(alloc, &inner.root, &inner.later)
+}
+
+// Whether each index of the input and of the function itself is shown to lie where it may, in the turns after the first one.
+fn is_later_bounded(alloc: Global, algo: &Algo, inner: &Inner<'_>) -> Result<bool, Stop>
+    ensures { Gives result (λ yes. yes) (broken.is_later_bounded (algorithm_of algo.now) (inner_seen inner.now) (option_map later_seen inner.now.later)) }
+{
     match &inner.later {
-        Some(later) => is_bounded(alloc, algo, root, &later.scope, &later.nests, &inner.region),
+        Some(later) => is_bounded(
+            alloc,
+            algo,
+            &inner.root,
+            &later.scope,
+            &later.nests,
+            &inner.region,
+        ),
         None => Ok(true),
+    }
+}
+
+// The same in any turn.
+fn are_nests_bounded(alloc: Global, algo: &Algo, inner: &Inner<'_>) -> Result<bool, Stop>
+    ensures { Gives result (λ yes. yes) (broken.are_nests_bounded (algorithm_of algo.now) (inner_seen inner.now)) }
+{
+    let Inner {
+        root,
+        scope,
+        nests,
+        region,
+        ..
+    } = inner;
+    if is_bounded(alloc, algo, root, scope, nests, region)? {
+        is_later_bounded(alloc, algo, inner)
+    } else {
+        Ok(false)
+    }
+}
+
+// The same where no turn needs too many numbers.
+fn is_inner_bounded(alloc: Global, algo: &Algo, inner: &Inner<'_>) -> Result<bool, Stop>
+    ensures { Gives result (λ yes. yes) (broken.is_inner_bounded (algorithm_of algo.now) (inner_seen inner.now)) }
+{
+    if inner.is_small {
+        are_nests_bounded(alloc, algo, inner)
+    } else {
+        Ok(false)
     }
 }
 
 // The rule of the lowest number that a function breaks where it is computed.
 fn broken_by(alloc: Global, algo: &Algo, inner: &Inner<'_>) -> Result<Option<RegionRule>, Stop>
-    ensures { IfOk result IsByRegion }
+    ensures kind { IfOk result IsByRegion }
+    ensures rule { Gives result (λ rule. rule) (broken.broken_by (algorithm_of algo.now) (inner_seen inner.now)) }
 {
     if is_short(alloc, inner)? {
         return Ok(Some(RegionRule::ShortShift));
@@ -250,27 +299,36 @@ fn broken_by(alloc: Global, algo: &Algo, inner: &Inner<'_>) -> Result<Option<Reg
     if !inner.fits {
         return Ok(Some(RegionRule::SmallFold));
     }
-    if !is_inner_bounded(alloc, algo, inner)? {
-        return Ok(Some(RegionRule::Unbounded));
+    if is_inner_bounded(alloc, algo, inner)? {
+        Ok(None)
+    } else {
+        Ok(Some(RegionRule::Unbounded))
     }
-    Ok(None)
 }
 
 fn lower_of(first: Option<RegionRule>, second: Option<RegionRule>) -> Option<RegionRule>
     requires first { IsByRegion first }
     requires second { IsByRegion second }
-    ensures { IsByRegion result }
+    ensures kind { IsByRegion result }
+    ensures rule { result ≡ broken.lower_of first second }
 {
     match (first, second) {
-        (Some(one), Some(other)) if other.number() < one.number() => Some(other),
+        (Some(one), Some(other)) => {
+            if other.number() < one.number() {
+                Some(other)
+            } else {
+                Some(one)
+            }
+        }
         (None, other) => other,
-        (one, _) => one,
+        (one, None) => one,
     }
 }
 
 // The same where bounds are missing, which is L12.
 fn fault_at(alloc: Global, algo: &Algo, inner: &Inner<'_>) -> Result<Option<RegionRule>, AllocError>
-    ensures { IfOk result IsByRegion }
+    ensures kind { IfOk result IsByRegion }
+    ensures rule { IfOk result (λ rule. rule ≡ broken.fault_at (algorithm_of algo.now) (inner_seen inner.now)) }
 {
     match broken_by(alloc, algo, inner) {
         Ok(rule) => Ok(rule),
@@ -279,41 +337,62 @@ fn fault_at(alloc: Global, algo: &Algo, inner: &Inner<'_>) -> Result<Option<Regi
     }
 }
 
-// With the rules that a function breaks where it is computed among these.
+// With the rule that the function of this name breaks here, if it is this one.
+fn with_fault(
+    alloc: Global,
+    algo: &Algo,
+    name: &str,
+    inner: &Inner<'_>,
+    known: Option<RegionRule>,
+) -> Result<Option<RegionRule>, AllocError>
+    requires { IsByRegion known }
+    ensures kind { IfOk result IsByRegion }
+    ensures rule { IfOk result (λ rule. rule ≡ broken.with_fault (algorithm_of algo.now) name.now (inner_seen inner.now) known) }
+{
+    if inner.root.stored.subject.name.as_str() == name {
+        Ok(lower_of(known, fault_at(alloc, algo, inner)?))
+    } else {
+        Ok(known)
+    }
+}
+
+// With those that it breaks where it is computed among these.
 fn with_faults(
     alloc: Global,
     algo: &Algo,
-    root: &Root<'_>,
+    name: &str,
     inners: &[Inner<'_>],
     known: Option<RegionRule>,
 ) -> Result<Option<RegionRule>, AllocError>
     requires { IsByRegion known }
-    ensures { IfOk result IsByRegion }
+    ensures kind { IfOk result IsByRegion }
+    ensures rule { IfOk result (λ rule. rule ≡ broken.with_faults (algorithm_of algo.now) name.now (map inner_seen inners.now) known) }
 {
-    let mut found = known;
-    for inner in inners {
-        if inner.root.stored.subject.name.as_str() == root.stored.subject.name.as_str() {
-            found = lower_of(found, fault_at(alloc, algo, inner)?);
+    match inners {
+        [] => Ok(known),
+        [inner, rest @ ..] => {
+            let found = with_fault(alloc, algo, name, inner, known)?;
+            with_faults(alloc, algo, name, rest, found)
         }
     }
-    Ok(found)
 }
 
 // The rule of the lowest number that a function breaks inside the loops of a root function: L12 where a bound of it is missing there.
 fn fault_among(
     alloc: Global,
     algo: &Algo,
-    root: &Root<'_>,
-    party: &Party<'_>,
+    name: &str,
+    inside: &Result<Vec<Inner<'_>>, Name>,
     known: Option<RegionRule>,
 ) -> Result<Option<RegionRule>, AllocError>
     requires { IsByRegion known }
-    ensures { IfOk result IsByRegion }
+    ensures kind { IfOk result IsByRegion }
+    ensures rule { IfOk result (λ rule. rule ≡ broken.fault_among (algorithm_of algo.now) name.now (spec.inside_of inside.now) known) }
 {
-    match &party.inners {
-        Ok(inners) => with_faults(alloc, algo, root, inners, known),
-        Err(name) => {
-            if name.as_str() == root.stored.subject.name.as_str() {
+    match inside {
+        Ok(inners) => with_faults(alloc, algo, name, inners, known),
+        Err(missing) => {
+            if missing.as_str() == name {
                 Ok(lower_of(known, Some(RegionRule::Unbounded)))
             } else {
                 Ok(known)
@@ -322,136 +401,213 @@ fn fault_among(
     }
 }
 
+// The same inside the loops of these.
+fn faults_among(
+    alloc: Global,
+    algo: &Algo,
+    name: &str,
+    parties: &[Party<'_>],
+    known: Option<RegionRule>,
+) -> Result<Option<RegionRule>, AllocError>
+    requires { IsByRegion known }
+    ensures kind { IfOk result IsByRegion }
+    ensures rule { IfOk result (λ rule. rule ≡ broken.faults_among (algorithm_of algo.now) name.now (map spec.inside_at parties.now) known) }
+{
+    match parties {
+        [] => Ok(known),
+        [party, rest @ ..] => {
+            let found = fault_among(alloc, algo, name, &party.inners, known)?;
+            faults_among(alloc, algo, name, rest, found)
+        }
+    }
+}
+
 /// The rule of the lowest number that a function breaks wherever it is computed inside loops.
 pub(crate) fn fault_inside(
     alloc: Global,
     algo: &Algo,
-    root: &Root<'_>,
+    name: &str,
     parties: &[Party<'_>],
 ) -> Result<Option<RegionRule>, AllocError>
-    ensures { IfOk result IsByRegion }
+    ensures kind { IfOk result IsByRegion }
+    ensures rule { IfOk result (λ rule. rule ≡ broken.fault_inside (algorithm_of algo.now) name.now (map spec.inside_at parties.now)) }
 {
-    let mut found = None;
-    for party in parties {
-        found = fault_among(alloc, algo, root, party, found)?;
-    }
-    Ok(found)
+    faults_among(alloc, algo, name, parties, None)
 }
 
 // ---- regions
 
-fn add_site(
+// The ends of what a call stays within, from a place on.
+fn add_ends(
     alloc: Global,
-    site: &Site,
+    scope: &Scope,
     place: usize,
+    spans: &[Span1],
     reach: &mut Vec<Option<Ends>>,
-) -> Result<(), Stop> {
-    for call in &site.calls {
-        if let Some(span) = call.as_slice().get(place) {
-            let ends = ends_of(alloc, &site.scope, span)?;
+) -> Result<(), Stop>
+    ensures { Tells result reach.new.items (asked.add_ends scope.now place spans.now reach.old.items) }
+{
+    match spans {
+        [] => Ok(()),
+        [span, rest @ ..] => {
+            let Some(next) = place.checked_add(1) else {
+                return Err(Stop::Memory);
+            };
+            let ends = ends_of(alloc, scope, span)?;
             widen(reach, place, ends);
+            add_ends(alloc, scope, next, rest, reach)
         }
     }
-    Ok(())
 }
 
-fn add_sites_at(
+fn add_calls(
     alloc: Global,
-    sites: &[Site],
-    place: usize,
+    scope: &Scope,
+    calls: &[Region],
     reach: &mut Vec<Option<Ends>>,
-) -> Result<(), Stop> {
-    for site in sites {
-        add_site(alloc, site, place, reach)?;
+) -> Result<(), Stop>
+    ensures { Tells result reach.new.items (asked.add_calls scope.now calls.now reach.old.items) }
+{
+    match calls {
+        [] => Ok(()),
+        [call, rest @ ..] => {
+            add_ends(alloc, scope, 0, call.as_slice(), reach)?;
+            add_calls(alloc, scope, rest, reach)
+        }
     }
-    Ok(())
+}
+
+fn add_sites(alloc: Global, sites: &[Site], reach: &mut Vec<Option<Ends>>) -> Result<(), Stop>
+    ensures { Tells result reach.new.items (asked.add_sites (map site_of sites.now) reach.old.items) }
+{
+    match sites {
+        [] => Ok(()),
+        [site, rest @ ..] => {
+            add_calls(alloc, &site.scope, &site.calls, reach)?;
+            add_sites(alloc, rest, reach)
+        }
+    }
+}
+
+// The functions that are computed inside the loops of a root function; none where a bound is missing.
+fn inners_among<'b, 'a>(party: &'b Party<'a>) -> &'b [Inner<'a>]
+    ensures { map inner_seen result.now ≡ spec.placed_of party.now }
+{
+    match &party.inners {
+        Ok(inners) => inners,
+        Err(_) => &[],
+    }
 }
 
 // Adds the points that a root function and those inside its loops call, but for what the function calls of itself.
 fn add_party(
     alloc: Global,
     algo: &Algo,
+    name: &str,
     party: &Party<'_>,
-    root: &Root<'_>,
     reach: &mut Vec<Option<Ends>>,
-) -> Result<(), Stop> {
-    let name = root.stored.subject.name.as_str();
-    let inners: &[Inner<'_>] = match &party.inners {
-        Ok(inners) => inners,
-        Err(_) => &[],
-    };
-    let sites = sites_of(alloc, algo, &party.root, inners, name)?;
-    for place in 0..reach.len() {
-        add_sites_at(alloc, &sites, place, reach)?;
-    }
-    Ok(())
+) -> Result<(), Stop>
+    ensures { Tells result reach.new.items (asked.add_group (algorithm_of algo.now) name.now (spec.party_of party.now) (spec.placed_of party.now)
+        reach.old.items) }
+{
+    let sites = sites_of(alloc, algo, &party.root, inners_among(party), name)?;
+    add_sites(alloc, &sites, reach)
 }
 
-// The region of a function that is reached so far and its own updates ask for, and the loops over it.
-fn laid_over(
+// Those of each of them.
+fn add_parties(
     alloc: Global,
     algo: &Algo,
-    root: &Root<'_>,
-    reach: Vec<Option<Ends>>,
-) -> Result<Laid, Stop>
-    ensures { IfOk result (λ laid. skeleton_of (stored_of root.now.stored.now) (map formula_of root.now.formulas.now) (laid_of laid).region
-        ≡ Some (laid_of laid).skeleton) }
+    name: &str,
+    parties: &[Party<'_>],
+    reach: &mut Vec<Option<Ends>>,
+) -> Result<(), Stop>
+    ensures { Tells result reach.new.items (asked.add_groups (algorithm_of algo.now) name.now (map spec.party_of parties.now)
+        (map spec.placed_of parties.now) reach.old.items) }
 {
-    let laid = closed(alloc, algo, root.stored, root.formulas, reach)?;
-    Ok(laid)
+    match parties {
+        [] => Ok(()),
+        [party, rest @ ..] => {
+            add_party(alloc, algo, name, party, reach)?;
+            add_parties(alloc, algo, name, rest, reach)
+        }
+    }
 }
 
-// The region of a function that all turns of the others ask for, and the loops over it.
+// The points of a function that all turns of the others ask for, and those of the output.
+fn reach_in(
+    alloc: Global,
+    algo: &Algo,
+    stored: &Stored<'_>,
+    parties: &[Party<'_>],
+) -> Result<Vec<Option<Ends>>, Stop>
+    ensures { Gives result (λ v. v.items) (asked.reach_in (algorithm_of algo.now) (map spec.party_of parties.now) (map spec.placed_of parties.now)
+        (stored_of stored.now)) }
+{
+    let mut reach = unreached(alloc, stored.subject.variables.len())?;
+    let name = stored.subject.name.as_str();
+    add_parties(alloc, algo, name, parties, &mut reach)?;
+    if stored.subject.is_output {
+        add_extents(algo, &mut reach)?;
+    }
+    Ok(reach)
+}
+
+// The region of a function that all turns of the others ask for, with what its own updates need, and the loops over it.
 fn laid_again(
     alloc: Global,
     algo: &Algo,
-    root: &Root<'_>,
+    stored: &Stored<'_>,
+    formulas: &[Formula],
     parties: &[Party<'_>],
 ) -> Result<Laid, Stop>
-    ensures { IfOk result (λ laid. skeleton_of (stored_of root.now.stored.now) (map formula_of root.now.formulas.now) (laid_of laid).region
-        ≡ Some (laid_of laid).skeleton) }
+    ensures { Gives result laid_of (asked.laid_again (algorithm_of algo.now) (map spec.party_of parties.now) (map spec.placed_of parties.now)
+        (stored_of stored.now) (map formula_of formulas.now)) }
 {
-    let mut reach = unreached(alloc, root.stored.subject.variables.len())?;
-    for party in parties {
-        add_party(alloc, algo, party, root, &mut reach)?;
-    }
-    if root.stored.subject.is_output {
-        add_extents(algo, &mut reach)?;
-    }
-    laid_over(alloc, algo, root, reach)
+    let reach = reach_in(alloc, algo, stored, parties)?;
+    closed(alloc, algo, stored, formulas, reach)
 }
 
 // None where there is no region within the limits.
-#[tactic(auto, using(crate::proofs::Laying::over_region))]
 fn laid_or_none(
     alloc: Global,
     algo: &Algo,
     stored: &Stored<'_>,
-    laid: &Option<Laid>,
+    formulas: &[Formula],
     parties: &[Party<'_>],
 ) -> Result<Option<Laid>, AllocError>
-    ensures { IfOk result (λ found. spec.IsOverRegion (stored_of stored.now) (option_map laid_of found) (stored_of stored.now).formulas) }
+    ensures { IfOk result (λ found. option_map laid_of found ≡ asked.laid_again (algorithm_of algo.now) (map spec.party_of parties.now)
+        (map spec.placed_of parties.now) (stored_of stored.now) (map formula_of formulas.now)) }
 {
-    let Some(formulas) = &stored.formulas else {
-        return Ok(None);
-    };
-    let Some(laid) = laid else {
-        return Ok(None);
-    };
-    let root = Root {
-        stored,
-        formulas,
-        laid,
-    };
-    match laid_again(alloc, algo, &root, parties) {
+    match laid_again(alloc, algo, stored, formulas, parties) {
         Ok(laid) => Ok(Some(laid)),
         Err(Stop::Limit) => Ok(None),
         Err(Stop::Memory) => Err(AllocError),
     }
 }
 
+// The same of a function that has definitions and had a region; of another one none.
+#[tactic(auto, using(crate::proofs::Asking::not_defined, crate::proofs::Asking::not_laid, crate::proofs::Asking::laid_so))]
+fn laid_anew(
+    alloc: Global,
+    algo: &Algo,
+    stored: &Stored<'_>,
+    laid: &Option<Laid>,
+    parties: &[Party<'_>],
+) -> Result<Option<Laid>, AllocError>
+    ensures { IfOk result (λ found. option_map laid_of found ≡ asked.laid_anew (algorithm_of algo.now) (map spec.party_of parties.now)
+        (map spec.placed_of parties.now) (stored_of stored.now) (stored_of stored.now).formulas (option_map laid_of laid.now)) }
+{
+    let Some(formulas) = &stored.formulas else {
+        return Ok(None);
+    };
+    match laid {
+        Some(_known) => laid_or_none(alloc, algo, stored, formulas, parties),
+        None => Ok(None),
+    }
+}
+
 // The same of each of some functions.
-#[tactic(auto, using(crate::proofs::Laying::first_over))]
 fn laid_each(
     alloc: Global,
     algo: &Algo,
@@ -459,14 +615,15 @@ fn laid_each(
     laid: &[Option<Laid>],
     parties: &[Party<'_>],
 ) -> Result<Vec<Option<Laid>>, AllocError>
-    ensures { IfOk result (λ v. spec.AreOverRegions (map stored_of stored.now) (map (option_map laid_of) v.items)) }
+    ensures { IfOk result (λ v. map (option_map laid_of) v.items ≡ asked.laid_each (algorithm_of algo.now) (map spec.party_of parties.now)
+        (map spec.placed_of parties.now) (map stored_of stored.now) (map (option_map laid_of) laid.now)) }
 {
     match stored {
         [] => Ok(Vec::new(alloc)),
         [one, others @ ..] => match laid {
             [] => Ok(Vec::new(alloc)),
             [known, rest @ ..] => {
-                let first = laid_or_none(alloc, algo, one, known, parties)?;
+                let first = laid_anew(alloc, algo, one, known, parties)?;
                 let mut made = laid_each(alloc, algo, others, rest, parties)?;
                 made.insert(0, first)?;
                 Ok(made)
@@ -475,16 +632,65 @@ fn laid_each(
     }
 }
 
-fn are_same(first: &[Option<Laid>], second: &[Option<Laid>]) -> bool {
-    first.iter().zip(second.iter()).all(|pair| match pair {
-        (Some(one), Some(other)) => is_same(&one.region, &other.region),
+fn same_laid(one: &Option<Laid>, other: &Option<Laid>) -> bool
+    ensures { result ≡ asked.same_laid (option_map laid_of one.now) (option_map laid_of other.now) }
+{
+    match (one, other) {
+        (Some(first), Some(second)) => is_same(&first.region, &second.region),
         (None, None) => true,
         _ => false,
-    })
+    }
 }
 
-/// The regions that all turns ask for, where the functions inside loops have these regions; none where they are the same, or
-/// where bounds are missing.
+fn are_same(first: &[Option<Laid>], second: &[Option<Laid>]) -> bool
+    ensures { result ≡ asked.are_same (map (option_map laid_of) first.now) (map (option_map laid_of) second.now) }
+{
+    match first {
+        [] => true,
+        [one, ones @ ..] => match second {
+            [] => true,
+            [other, others @ ..] => same_laid(one, other) && are_same(ones, others),
+        },
+    }
+}
+
+// Whether a bound is missing of a function that is computed inside loops.
+fn are_unknown(parties: &[Party<'_>]) -> bool
+    ensures { result ≡ list_any spec.is_missing (map spec.inside_at parties.now) }
+{
+    match parties {
+        [] => false,
+        [party, rest @ ..] => party.inners.is_err() || are_unknown(rest),
+    }
+}
+
+/// The regions that all turns ask for, where these functions are computed inside loops over these regions; none where they are the
+/// same, or where bounds are missing.
+#[tactic(auto, using(crate::proofs::Asking::no_bounds, crate::proofs::Asking::asked_same, crate::proofs::Asking::asked_others, crate::proofs::Asking::over_asked))]
+pub(crate) fn asked_regions(
+    alloc: Global,
+    algo: &Algo,
+    stored: &[Stored<'_>],
+    laid: &[Option<Laid>],
+    parties: &[Party<'_>],
+) -> Result<Option<Vec<Option<Laid>>>, AllocError>
+    requires { map spec.party_of parties.now ≡ spec.rooted true (map stored_of stored.now) (map (option_map laid_of) laid.now) }
+    ensures asked { IfOk result (λ found. option_map spec.all_laid found ≡ asked.unless (list_any spec.is_missing (map spec.inside_at parties.now))
+        (spec.asked (algorithm_of algo.now) (map stored_of stored.now) (map (option_map laid_of) laid.now)
+        (map spec.placed_in (map spec.inside_at parties.now)))) }
+    ensures over { IfOk result (λ found. IfSome found (λ v. spec.AreOverRegions (map stored_of stored.now) (map (option_map laid_of) v.items))) }
+{
+    if are_unknown(parties) {
+        return Ok(None);
+    }
+    let made = laid_each(alloc, algo, stored, laid, parties)?;
+    if are_same(laid, &made) {
+        return Ok(None);
+    }
+    Ok(Some(made))
+}
+
+/// The same, where the functions inside loops are looked for over these regions.
 pub fn laid_by_turns(
     alloc: Global,
     algo: &Algo,
@@ -494,12 +700,5 @@ pub fn laid_by_turns(
     ensures { IfOk result (λ found. IfSome found (λ v. spec.AreOverRegions (map stored_of stored.now) (map (option_map laid_of) v.items))) }
 {
     let parties = parties_of(alloc, algo, stored, laid)?;
-    if parties.iter().any(|party| party.inners.is_err()) {
-        return Ok(None);
-    }
-    let made = laid_each(alloc, algo, stored, laid, &parties)?;
-    if are_same(laid, &made) {
-        return Ok(None);
-    }
-    Ok(Some(made))
+    asked_regions(alloc, algo, stored, laid, &parties)
 }

@@ -452,7 +452,7 @@ pub(crate) fn first_let(
 }
 
 // To how many places the last of these folds, 0 where there is none.
-fn fold_of(folds: &[Fold]) -> u64
+pub(crate) fn fold_of(folds: &[Fold]) -> u64
     ensures { result ≡ spec.fold_of folds.now }
 {
     match folds {

@@ -6,6 +6,7 @@ ghost use Rattle.std.specs.Option.{option_map};
 ghost use Rattle.meaning.specs.Names.{same_name};
 ghost use Rattle.lower.specs.Limited.{Gives, Tells};
 ghost use Rattle.lower.specs.Placed.{later_seen};
+ghost use Rattle.lower.specs.Seats as seats;
 ghost use Rattle.lower.specs.Slid as spec;
 ghost use Rattle.lower.specs.Stored.{formula_of, stored_of};
 
@@ -675,28 +676,16 @@ pub(crate) fn folds_fit(
     Ok(all_fit(variable, size, folds))
 }
 
-/// To how many places the dimension is folded in which the function slides; 0 where it is not.
-pub(crate) fn fold_of(root: &Root<'_>) -> u64 {
-    match root.stored.placed.folds.last() {
-        Some(fold) => u64::from(fold.factor),
-        None => 0,
-    }
-}
-
 /// The places, folded in the dimension in which the function slides.
-pub(crate) fn folded(
-    alloc: Global,
-    places: Vec<Places>,
-    sliding: Option<usize>,
-    factor: u64,
-) -> Result<Vec<Places>, AllocError> {
-    let mut made = Vec::new(alloc);
-    for (dimension, one) in places.into_iter().enumerate() {
-        if sliding == Some(dimension) && factor > 0 {
-            made.push(Places::Folded { count: factor })?;
-        } else {
-            made.push(one)?;
-        }
+pub(crate) fn folded(places: Vec<Places>, sliding: Option<usize>, factor: u64) -> Vec<Places>
+    ensures { result.items ≡ seats.folded sliding factor places.items }
+{
+    let mut places = places;
+    let Some(dimension) = sliding else {
+        return places;
+    };
+    if 0 < factor && dimension < places.len() {
+        places[dimension] = Places::Folded { count: factor };
     }
-    Ok(made)
+    places
 }

@@ -1,9 +1,13 @@
 //! The places of a buffer: how many hold what is needed and what is stored.
 
-ghost use Rattle.std.specs.Prelude.{◌≡◌, IfOk, length, map};
+ghost use Rattle.std.specs.Prelude.{◌≡◌, [], IfOk, length, map};
+ghost use Rattle.std.specs.Option.{option_map};
 ghost use Rattle.lower.specs.Limited.{Gives, Tells};
 ghost use Rattle.lower.specs.Parted as parted;
+ghost use Rattle.lower.specs.Placed.{later_seen};
 ghost use Rattle.lower.specs.Rounded as rounded;
+ghost use Rattle.lower.specs.Seats as seats;
+ghost use Rattle.lower.specs.Taken.{site_of};
 ghost use Rattle.sched.specs.Skeleton.{nest_seen};
 
 use crate::error::Stop;
@@ -11,7 +15,7 @@ use crate::fetching::{Site, count_from, freed, places_of};
 use crate::regions::symbols_from;
 use crate::scopes::bind_steps;
 use crate::sliding::Later;
-use lin::{Forms, Lin, Region, Scope, Span1, Sym};
+use lin::{Lin, Region, Scope, Span1, Sym};
 use plan::Places;
 use sched::{Nest, Step};
 use std::alloc::{AllocError, Global};
@@ -22,6 +26,13 @@ pub(crate) struct Arms<'b> {
     pub scope: &'b Scope,
     pub nests: &'b [Nest],
     pub later: Option<&'b Later>,
+}
+
+/// The fewest places so far, and how many they are.
+#[derive(Drop)]
+pub(crate) struct Best {
+    places: Option<Places>,
+    least: i64,
 }
 
 fn larger(first: i64, second: i64) -> i64
@@ -98,6 +109,22 @@ pub(crate) fn stored_from(
     }
 }
 
+// The same up to the last number that the later turns store, where there are some.
+fn later_from(
+    alloc: Global,
+    later: Option<&Later>,
+    dimension: usize,
+    origin: &Lin,
+    least: i64,
+) -> Result<Option<i64>, AllocError>
+    ensures { IfOk result (λ count. count ≡ seats.later_from (option_map (λ l. later_seen l.now) later.entry) dimension origin.now least) }
+{
+    match later {
+        Some(later) => stored_from(alloc, &later.scope, &later.nests, dimension, origin, least),
+        None => Ok(Some(least)),
+    }
+}
+
 // How many places from a form on hold what is needed and what is stored.
 fn seats_from(
     alloc: Global,
@@ -105,57 +132,81 @@ fn seats_from(
     arms: Arms<'_>,
     dimension: usize,
     origin: &Lin,
-    upper: &Forms,
-) -> Result<Option<i64>, AllocError> {
-    let Some(needed) = count_from(alloc, outer, origin, upper.as_slice())? else {
+    upper: &[Lin],
+) -> Result<Option<i64>, AllocError>
+    ensures { IfOk result (λ count. count ≡ seats.seats_from outer.now (seats.arms_seen arms.entry) dimension origin.now upper.now) }
+{
+    let Some(needed) = count_from(alloc, outer, origin, upper)? else {
         return Ok(None);
     };
-    let stored = stored_from(alloc, arms.scope, arms.nests, dimension, origin, needed)?;
-    match (stored, arms.later) {
-        (Some(count), Some(later)) => {
-            stored_from(alloc, &later.scope, &later.nests, dimension, origin, count)
-        }
-        (count, _) => Ok(count),
+    match stored_from(alloc, arms.scope, arms.nests, dimension, origin, needed)? {
+        Some(count) => later_from(alloc, arms.later, dimension, origin, count),
+        None => Ok(None),
     }
 }
 
-// How many places there are from a form on up to what a call needs of a dimension; none where the form is not shown to be at most
-// that, or bounds do not tell it.
+// How many places there are from a form on up to what a call needs of a dimension, where that begins at one of these lower forms;
+// none where the form is not shown to be at most that, or bounds do not tell it.
 fn called_from(
     alloc: Global,
     scope: &Scope,
-    span: &Span1,
     origin: &Lin,
-) -> Result<Option<i64>, AllocError> {
-    for low in span.lower.as_slice() {
-        match scope.sup_of_difference(alloc, origin, low)? {
-            Some(most) if most <= 0 => {
-                return count_from(alloc, scope, origin, span.upper.as_slice());
+    lower: &[Lin],
+    upper: &[Lin],
+) -> Result<Option<i64>, AllocError>
+    ensures { IfOk result (λ count. count ≡ seats.called_from scope.now origin.now upper.now lower.now) }
+{
+    match lower {
+        [] => Ok(None),
+        [low, rest @ ..] => {
+            if scope.at_most(alloc, origin, low)? {
+                count_from(alloc, scope, origin, upper)
+            } else {
+                called_from(alloc, scope, origin, rest, upper)
             }
-            _ => {}
         }
     }
-    Ok(None)
 }
 
-// The same of all calls at a site, at least so many.
-fn site_from(
+// The same of a call that has the dimension, at least so many.
+fn call_from(
     alloc: Global,
-    site: &Site,
+    scope: &Scope,
+    call: &Region,
     dimension: usize,
     origin: &Lin,
     least: i64,
-) -> Result<Option<i64>, AllocError> {
-    let mut count = least;
-    for call in &site.calls {
-        if let Some(span) = call.as_slice().get(dimension) {
-            match called_from(alloc, &site.scope, span, origin)? {
-                Some(most) => count = count.max(most),
-                None => return Ok(None),
-            }
-        }
+) -> Result<Option<i64>, AllocError>
+    ensures { IfOk result (λ count. count ≡ seats.call_from scope.now dimension origin.now call.now least) }
+{
+    let Some(span) = call.as_slice().get(dimension) else {
+        return Ok(Some(least));
+    };
+    let lower = span.lower.as_slice();
+    match called_from(alloc, scope, origin, lower, span.upper.as_slice())? {
+        Some(most) => Ok(Some(larger(least, most))),
+        None => Ok(None),
     }
-    Ok(Some(count))
+}
+
+// The same of all calls at a site.
+fn calls_from(
+    alloc: Global,
+    scope: &Scope,
+    calls: &[Region],
+    dimension: usize,
+    origin: &Lin,
+    least: i64,
+) -> Result<Option<i64>, AllocError>
+    ensures { IfOk result (λ count. count ≡ seats.calls_from scope.now dimension origin.now calls.now least) }
+{
+    match calls {
+        [] => Ok(Some(least)),
+        [call, rest @ ..] => match call_from(alloc, scope, call, dimension, origin, least)? {
+            Some(count) => calls_from(alloc, scope, rest, dimension, origin, count),
+            None => Ok(None),
+        },
+    }
 }
 
 // The same of all sites.
@@ -165,15 +216,82 @@ fn sites_from(
     dimension: usize,
     origin: &Lin,
     least: i64,
-) -> Result<Option<i64>, AllocError> {
-    let mut count = least;
-    for site in sites {
-        match site_from(alloc, site, dimension, origin, count)? {
-            Some(most) => count = most,
-            None => return Ok(None),
+) -> Result<Option<i64>, AllocError>
+    ensures { IfOk result (λ count. count ≡ seats.sites_from dimension origin.now (map site_of sites.now) least) }
+{
+    match sites {
+        [] => Ok(Some(least)),
+        [site, rest @ ..] => {
+            match calls_from(alloc, &site.scope, &site.calls, dimension, origin, least)? {
+                Some(count) => sites_from(alloc, rest, dimension, origin, count),
+                None => Ok(None),
+            }
         }
     }
-    Ok(Some(count))
+}
+
+// How many places from a form on hold what is needed, what is stored and what these sites call.
+fn held_from(
+    alloc: Global,
+    outer: &Scope,
+    arms: Arms<'_>,
+    sites: &[Site],
+    dimension: usize,
+    origin: &Lin,
+    upper: &[Lin],
+) -> Result<Option<i64>, AllocError>
+    ensures { IfOk result (λ count. count ≡ seats.held_from outer.now (seats.arms_seen arms.entry) (map site_of sites.now) dimension origin.now upper.now) }
+{
+    match seats_from(alloc, outer, arms, dimension, origin, upper)? {
+        Some(held) => sites_from(alloc, sites, dimension, origin, held),
+        None => Ok(None),
+    }
+}
+
+// So many places from a form on, where they are fewer than those so far.
+fn with_count(
+    alloc: Global,
+    origin: &Lin,
+    count: Option<i64>,
+    best: Best,
+) -> Result<Best, AllocError>
+    ensures { IfOk result (λ made. made ≡ seats.with_count origin.now count best) }
+{
+    let Some(count) = count else {
+        return Ok(best);
+    };
+    if count < best.least {
+        Ok(Best {
+            places: Some(places_of(alloc, origin, count)?),
+            least: count,
+        })
+    } else {
+        Ok(best)
+    }
+}
+
+// The places from the one of these lower forms on that asks for the fewest.
+fn places_from(
+    alloc: Global,
+    outer: &Scope,
+    arms: Arms<'_>,
+    sites: &[Site],
+    dimension: usize,
+    lower: &[Lin],
+    upper: &[Lin],
+    best: Best,
+) -> Result<Option<Places>, AllocError>
+    ensures { IfOk result (λ places. places ≡ seats.places_from outer.now (seats.arms_seen arms.entry) (map site_of sites.now) dimension upper.now
+        lower.now best) }
+{
+    match lower {
+        [] => Ok(best.places),
+        [origin, rest @ ..] => {
+            let count = held_from(alloc, outer, arms, sites, dimension, origin, upper)?;
+            let next = with_count(alloc, origin, count, best)?;
+            places_from(alloc, outer, arms, sites, dimension, rest, upper, next)
+        }
+    }
 }
 
 // The places of a dimension: from the lower form on that asks for the fewest and is shown to hold what these sites call, where
@@ -185,20 +303,16 @@ fn places_over(
     sites: &[Site],
     dimension: usize,
     span: &Span1,
-) -> Result<Option<Places>, Stop> {
-    let mut best: Option<Places> = None;
-    let mut least = i64::MAX;
-    for origin in span.lower.as_slice() {
-        if let Some(held) = seats_from(alloc, outer, arms, dimension, origin, &span.upper)? {
-            if let Some(count) = sites_from(alloc, sites, dimension, origin, held)? {
-                if count < least {
-                    least = count;
-                    best = Some(places_of(alloc, origin, count)?);
-                }
-            }
-        }
-    }
-    Ok(best)
+) -> Result<Option<Places>, AllocError>
+    ensures { IfOk result (λ places. places ≡ seats.places_over outer.now (seats.arms_seen arms.entry) (map site_of sites.now) dimension span.now) }
+{
+    let none = Best {
+        places: None,
+        least: i64::MAX,
+    };
+    let lower = span.lower.as_slice();
+    let upper = span.upper.as_slice();
+    places_from(alloc, outer, arms, sites, dimension, lower, upper, none)
 }
 
 // The places of a dimension, shown to hold what is called where bounds tell such places.
@@ -209,7 +323,9 @@ fn places_for(
     sites: &[Site],
     dimension: usize,
     span: &Span1,
-) -> Result<Places, Stop> {
+) -> Result<Places, Stop>
+    ensures { Gives result (λ places. places) (seats.places_for outer.now (seats.arms_seen arms.entry) (map site_of sites.now) dimension span.now) }
+{
     if let Some(places) = places_over(alloc, outer, arms, sites, dimension, span)? {
         return Ok(places);
     }
@@ -253,17 +369,43 @@ pub(crate) fn kept_region(
     Ok(kept)
 }
 
-// The places of a region where its buffer stands.
+// The places of these dimensions, from one of them on, behind others.
+fn add_places(
+    alloc: Global,
+    outer: &Scope,
+    arms: Arms<'_>,
+    sites: &[Site],
+    dimension: usize,
+    spans: &[Span1],
+    places: &mut Vec<Places>,
+) -> Result<(), Stop>
+    ensures { Tells result places.new.items (seats.add_places outer.now (seats.arms_seen arms.entry) (map site_of sites.now) dimension spans.now
+        places.old.items) }
+{
+    match spans {
+        [] => Ok(()),
+        [span, rest @ ..] => {
+            let Some(next) = dimension.checked_add(1) else {
+                return Err(Stop::Memory);
+            };
+            places.push(places_for(alloc, outer, arms, sites, dimension, span)?)?;
+            add_places(alloc, outer, arms, sites, next, rest, places)
+        }
+    }
+}
+
+/// The places of a region where its buffer stands.
 pub(crate) fn storage_of(
     alloc: Global,
     outer: &Scope,
     arms: Arms<'_>,
     sites: &[Site],
     kept: &Region,
-) -> Result<Vec<Places>, Stop> {
+) -> Result<Vec<Places>, Stop>
+    ensures { Gives result (λ v. v.items) (seats.add_places outer.now (seats.arms_seen arms.entry) (map site_of sites.now) 0 kept.now []) }
+{
     let mut places = Vec::new(alloc);
-    for (dimension, span) in kept.as_slice().iter().enumerate() {
-        places.push(places_for(alloc, outer, arms, sites, dimension, span)?)?;
-    }
+    let spans = kept.as_slice();
+    add_places(alloc, outer, arms, sites, 0, spans, &mut places)?;
     Ok(places)
 }

@@ -1,15 +1,18 @@
 //! The loops, lets and guards of a function that is computed inside loops, over what one turn of them needs of it.
 
 ghost use Rattle.std.specs.Prelude.{◌≡◌, ◌∷◌, ◌++◌, [], None, Some, if◌then◌else◌, IfOk, OnOk, length, map, reverse};
+ghost use Rattle.std.specs.List.{list_any};
 ghost use Rattle.std.specs.Option.{option_copied};
 ghost use Rattle.sched.specs.Standing.{form_named as form_named_of};
 ghost use Rattle.sched.specs.Skeleton.{body_of, nest_seen, kept_from, is_missing as is_missing_of, ranges_at as ranges_at_of, variables_at as variables_at_of};
+ghost use Rattle.lower.specs.Broken as broken;
 ghost use Rattle.lower.specs.Limited.{Gives, Tells};
 ghost use Rattle.lower.specs.Stored.{formula_of, stored_of};
 ghost use Rattle.lower.specs.Parted as parted;
 ghost use Rattle.lower.specs.Settled.{standing_seen};
 ghost use Rattle.lower.specs.Turned as spec;
-ghost use Rattle.meaning.specs.Names.{is_among as is_among_of};
+ghost use Rattle.meaning.specs.Names.{is_among as is_among_of, same_name};
+ghost use Rattle.sched.specs.Placing.{is_shifted};
 ghost use Rattle.sched.specs.Standing.{cuts_by_variable, cuts_of as cuts_of_loops};
 
 use crate::blocks::form_named;
@@ -21,6 +24,7 @@ use crate::forms::between;
 use crate::nests::bodies;
 use crate::rounded::Begun;
 use crate::standing::{Run, Standing};
+use crate::windows::fewer;
 use lin::{Forms, Lin, Region, Scope, Span1, Sym};
 use plan::Kind;
 use sched::{Body, Known, Loop, Mark, Nest, Numbers, Split, Step, Tail, Turning, loop_numbers};
@@ -770,62 +774,151 @@ pub(crate) fn nests_begun(
 
 // ---- short blocks
 
-// The fewest numbers that a dimension has in one turn; none where bounds do not tell it.
-fn least_of(alloc: Global, scope: &Scope, span: &Span1) -> Result<Option<i64>, AllocError> {
-    let mut least: Option<i64> = None;
-    for low in span.lower.as_slice() {
-        match least_from(alloc, scope, low, span.upper.as_slice())? {
-            Some(count) => {
-                least = Some(match least {
-                    Some(known) => known.min(count),
-                    None => count,
-                });
-            }
-            None => return Ok(None),
-        }
-    }
-    Ok(least)
-}
-
+// The fewest numbers that there are in some turn from a lower form to one of these upper ones, or as many as before; none where
+// bounds do not tell it of one of them.
 fn least_from(
     alloc: Global,
     scope: &Scope,
     low: &Lin,
     upper: &[Lin],
-) -> Result<Option<i64>, AllocError> {
-    let mut least: Option<i64> = None;
-    for high in upper {
-        let Some(most) = scope.sup_of_difference(alloc, low, high)? else {
-            return Ok(None);
-        };
-        let count = 1_i64.saturating_sub(most);
-        least = Some(match least {
-            Some(known) => known.min(count),
-            None => count,
-        });
+    least: Option<i64>,
+) -> Result<Option<i64>, AllocError>
+    ensures { IfOk result (λ count. count ≡ broken.least_from scope.now low.now upper.now least) }
+{
+    match upper {
+        [] => Ok(least),
+        [high, rest @ ..] => match scope.sup_of_difference(alloc, low, high)? {
+            Some(most) => {
+                let count = fewer(least, Some(1_i64.saturating_sub(most)));
+                least_from(alloc, scope, low, rest, count)
+            }
+            None => Ok(None),
+        },
     }
-    Ok(least)
 }
 
-// Whether the variable's loop is split with `shift` into blocks of more numbers than some turn has. A block of one number has none
-// too many: it is kept as one of `guard` is.
-fn is_short(cuts: &[Split], variable: &Name, least: Option<i64>) -> bool {
-    cuts.iter().any(|cut| cut.tail == Tail::Shift
-        && cut.factor > 1
+// The same of each of these lower forms.
+fn least_over(
+    alloc: Global,
+    scope: &Scope,
+    lower: &[Lin],
+    upper: &[Lin],
+    least: Option<i64>,
+) -> Result<Option<i64>, AllocError>
+    ensures { IfOk result (λ count. count ≡ broken.least_over scope.now lower.now upper.now least) }
+{
+    match lower {
+        [] => Ok(least),
+        [low, rest @ ..] => match least_from(alloc, scope, low, upper, None)? {
+            Some(count) => least_over(alloc, scope, rest, upper, fewer(least, Some(count))),
+            None => Ok(None),
+        },
+    }
+}
+
+// The fewest numbers that a dimension has in one turn; none where bounds do not tell it.
+fn least_of(alloc: Global, scope: &Scope, span: &Span1) -> Result<Option<i64>, AllocError>
+    ensures { IfOk result (λ count. count ≡ broken.least_of scope.now span.now) }
+{
+    least_over(
+        alloc,
+        scope,
+        span.lower.as_slice(),
+        span.upper.as_slice(),
+        None,
+    )
+}
+
+fn is_shifted(cut: &Split) -> bool
+    ensures { result ≡ is_shifted cut.now }
+{
+    match cut.tail {
+        Tail::Shift => true,
+        Tail::Guard | Tail::Roundup => false,
+    }
+}
+
+fn is_fewer(least: Option<i64>, factor: u32) -> bool
+    ensures { result ≡ broken.is_fewer least factor }
+{
+    match least {
+        Some(count) => count < i64::from(factor),
+        None => true,
+    }
+}
+
+// Whether the split is one with `shift` of the variable's loop into blocks of more numbers than some turn has. A block of one
+// number has none too many: it is kept as one of `guard` is.
+fn is_short_of(cut: &Split, variable: &Name, least: Option<i64>) -> bool
+    ensures { result ≡ broken.is_short_of variable.now least cut.now }
+{
+    is_shifted(cut)
+        && 1 < cut.factor
         && cut.whole.as_str() == variable.as_str()
-        && match least {
-            Some(count) => count < i64::from(cut.factor),
-            None => true,
-        })
+        && is_fewer(least, cut.factor)
 }
 
-// The same of the loops that splits make.
-fn has_short_half(numbers: &[Numbers], cuts: &[Split], variables: &[Name]) -> bool {
-    cuts.iter().any(|cut| cut.tail == Tail::Shift
-        && !variables
-            .iter()
-            .any(|name| name.as_str() == cut.whole.as_str())
-        && number_named(numbers, &cut.whole) < cut.factor)
+fn is_short(cuts: &[Split], variable: &Name, least: Option<i64>) -> bool
+    ensures { result ≡ list_any (broken.is_short_of variable.now least) cuts.now }
+{
+    match cuts {
+        [] => false,
+        [cut, rest @ ..] => is_short_of(cut, variable, least) || is_short(rest, variable, least),
+    }
+}
+
+// The same of one of these variables, over these spans.
+fn are_short(
+    alloc: Global,
+    scope: &Scope,
+    cuts: &[Split],
+    variables: &[Name],
+    spans: &[Span1],
+) -> Result<bool, AllocError>
+    ensures { IfOk result (λ yes. yes ≡ broken.are_short cuts.now scope.now variables.now spans.now) }
+{
+    match variables {
+        [] => Ok(false),
+        [variable, others @ ..] => match spans {
+            [] => Ok(false),
+            [span, rest @ ..] => {
+                let least = least_of(alloc, scope, span)?;
+                if is_short(cuts, variable, least) {
+                    return Ok(true);
+                }
+                are_short(alloc, scope, cuts, others, rest)
+            }
+        },
+    }
+}
+
+fn is_named_among(variables: &[Name], name: &Name) -> bool
+    ensures { result ≡ list_any (same_name name.now) variables.now }
+{
+    match variables {
+        [] => false,
+        [one, rest @ ..] => name.as_str() == one.as_str() || is_named_among(rest, name),
+    }
+}
+
+// The same of a loop that a split makes.
+fn is_short_half(numbers: &[Numbers], variables: &[Name], cut: &Split) -> bool
+    ensures { result ≡ broken.is_short_half numbers.now variables.now cut.now }
+{
+    is_shifted(cut)
+        && !is_named_among(variables, &cut.whole)
+        && number_named(numbers, &cut.whole) < cut.factor
+}
+
+fn has_short_half(numbers: &[Numbers], variables: &[Name], cuts: &[Split]) -> bool
+    ensures { result ≡ list_any (broken.is_short_half numbers.now variables.now) cuts.now }
+{
+    match cuts {
+        [] => false,
+        [cut, rest @ ..] => {
+            is_short_half(numbers, variables, cut) || has_short_half(numbers, variables, rest)
+        }
+    }
 }
 
 /// Whether in some turn a loop that is split with `shift` has fewer numbers than a block.
@@ -834,15 +927,15 @@ pub(crate) fn has_short_turn(
     root: &Root<'_>,
     scope: &Scope,
     region: &Region,
-) -> Result<bool, Stop> {
+) -> Result<bool, Stop>
+    ensures { Gives result (λ yes. yes) (broken.has_short_turn (stored_of root.now.stored.now) scope.now region.now) }
+{
     let cuts = &root.stored.placed.cuts;
     let variables = &root.stored.subject.variables;
-    for (variable, span) in variables.iter().zip(region.as_slice().iter()) {
-        if is_short(cuts, variable, least_of(alloc, scope, span)?) {
-            return Ok(true);
-        }
+    if are_short(alloc, scope, cuts, variables, region.as_slice())? {
+        return Ok(true);
     }
     let extents = extents_of(alloc, scope, region)?;
     let numbers = loop_numbers(alloc, variables, cuts, &extents)?;
-    Ok(has_short_half(&numbers, cuts, variables))
+    Ok(has_short_half(&numbers, variables, cuts))
 }

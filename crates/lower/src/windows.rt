@@ -8,8 +8,8 @@ use sched::Fold;
 use std::alloc::{AllocError, Global};
 use tree::token::Name;
 
-// The smaller of two numbers, where there are two.
-fn fewer(one: Option<i64>, other: Option<i64>) -> Option<i64>
+/// The smaller of two numbers, where there are two.
+pub(crate) fn fewer(one: Option<i64>, other: Option<i64>) -> Option<i64>
     ensures { result ≡ spec.fewer one other }
 {
     match (one, other) {

@@ -7,7 +7,7 @@ use Rattle.lower.specs.Computed.{AreComputed}
 use Rattle.lower.specs.Groups.{root_of}
 use Rattle.lower.specs.Homes.{AreAt}
 use Rattle.lower.specs.Placed.{inner_seen}
-use Rattle.lower.proofs.Along.{found_more, none_more}
+use Rattle.lower.proofs.Along.{found_missing, found_more, none_more}
 use Rattle.lower.proofs.Hosts.{more_at_home}
 use Rattle.lower.proofs.inner.+inners_before.Goals as goal
 
@@ -49,3 +49,13 @@ returns-in-Ok-clause-found t c =
     subst (λ (l : List Inner). AreComputed a e (map root_of functions) (map inner_seen l) (root_of root) (map inner_seen found)) c.deref.ensures.value c.in-Ok.ensures.computed in
     found_more a e functions c.args.count last c.args.inners.items root found c.append.new.self.items c.in_ok-inners_before-in-Ok.field-0 (omega (arith, c.in-Some.ensures)) some
     these c.in_ok-append-in-Ok.ensures.items c.in_ok-inners_before-in-Ok.ensures.found
+
+pub returns-in-Err-Limit-clause-found : goal.returns-in-Err-Limit-clause-found
+returns-in-Err-Limit-clause-found t c =
+    let functions = c.args.functions.now in
+    let last = c.in-Some.last in
+    let root = c.in-Some-get.root.now in
+    let some : slice_get functions last ≡ Some root =
+    slice_get_read functions (length functions) last root refl c.in-Some-get.ensures.lookup.3.0 c.in-Some-get.ensures.lookup.1 in
+    found_missing (algorithm_of c.args.algo.now) (root_of c.args.group.now) functions c.args.count last c.args.inners.items root (root_of root).0.subject.name
+    (omega (arith, c.in-Some.ensures)) some refl

@@ -3,37 +3,41 @@ use Rattle.std.specs.Option.{option_map}
 use Rattle.algo.specs.View.{algorithm_of}
 use Rattle.lower.specs.Stored.{stored_of}
 use Rattle.lower.specs.Regions.{laid_of}
-use Rattle.lower.specs.Faults.{fault_of, totals_with}
+use Rattle.lower.specs.Broken.{rule_of, totals_of}
+use Rattle.lower.specs.Groups.{inside_at}
 use Rattle.lower.specs.Uses.{is_use}
-use Rattle.lower.proofs.First.{here_in, rest_is, later_in}
+use Rattle.lower.proofs.Breaking.{here_in, later_in}
+use Rattle.lower.proofs.First.{rest_is}
 use Rattle.lower.proofs.Outsides as uses
 use Rattle.lower.proofs.legality.+fault_from.Goals as goal
 
 pub returns-in-Some-2-clause-first : goal.returns-in-Some-2-clause-first
 returns-in-Some-2-clause-first t c =
     let a = algorithm_of c.args.algo.now in
-    let large = c.args.has_large in
+    let all = map stored_of c.args.all.now in
+    let inside = map inside_at c.args.parties.now in
     let totals = c.args.totals in
     let one = c.one-item.result in
     let next : c.args.count ≡ c.in-Some.left + 1 = omega (arith, c.in-Some.ensures) in
-    here_in a large totals c.args.stored.now one (map (option_map laid_of) c.args.laid.now) c.in-Some-2.rule c.in-Some.left c.args.count next
+    here_in a all inside c.args.is_missed totals c.args.stored.now one (map (option_map laid_of) c.args.laid.now) c.in-Some-2.rule c.in-Some.left c.args.count next
     (omega (arith, c.in-len1-up.len_at_least)) c.one-item.is
-    (λ w. sym c.in-Some-2.is ∙ c.in_ok-rule-in-len1-up.ensures.rule w ∙ ap (λ l. fault_of a large totals (stored_of one) l) c.first_laid-first.ensures)
+    (sym c.in-Some-2.is ∙ c.in_ok-rule-in-len1-up.ensures.rule ∙ ap (λ l. rule_of a all inside c.args.is_missed totals (stored_of one) l) c.first_laid-first.ensures)
 
 pub returns-in-None-clause-first : goal.returns-in-None-clause-first
 returns-in-None-clause-first t c =
     let a = algorithm_of c.args.algo.now in
-    let large = c.args.has_large in
+    let rs = map stored_of c.args.all.now in
+    let inside = map inside_at c.args.parties.now in
     let totals = c.args.totals in
     let one = c.one-item.result in
     let next : c.args.count ≡ c.in-Some.left + 1 = omega (arith, c.in-Some.ensures) in
     let all = c.args.stored.now in
     let some : 0 < length all = omega (arith, c.in-len1-up.len_at_least) in
-    later_in a large totals c.totals_with-totals.result all (take (length all - 1) (drop 1 all)) one (map (option_map laid_of) c.args.laid.now)
+    later_in a rs inside c.args.is_missed totals c.totals_with-totals.result all (take (length all - 1) (drop 1 all)) one (map (option_map laid_of) c.args.laid.now)
     (map (option_map laid_of) c.other_laid-rest.result.now) c.in-Some.left c.args.count c.fault_from.result next
     some c.one-item.is
-    (λ w. sym c.in-None.is ∙ c.in_ok-rule-in-len1-up.ensures.rule w ∙ ap (λ l. fault_of a large totals (stored_of one) l) c.first_laid-first.ensures)
-    (λ w. c.totals_with-totals.ensures w ∙ ap (λ l. totals_with totals (stored_of one) l) c.first_laid-first.ensures) c.other_laid-rest.ensures (rest_is all some) c.fault_from.ensures.first
+    (sym c.in-None.is ∙ c.in_ok-rule-in-len1-up.ensures.rule ∙ ap (λ l. rule_of a rs inside c.args.is_missed totals (stored_of one) l) c.first_laid-first.ensures)
+    (c.totals_with-totals.ensures ∙ ap (λ l. totals_of totals (stored_of one) l) c.first_laid-first.ensures) c.other_laid-rest.ensures (rest_is all some) c.fault_from.ensures.first
 
 pub returns-in-Some-2-clause-uses : goal.returns-in-Some-2-clause-uses
 returns-in-Some-2-clause-uses t c =

@@ -24,3 +24,4 @@ returns-clause-made c =
     c.in_ok-groups.ensures.bodies
     (ap (λ (v : Vec Group). v.items) c.in_ok-plan.ensures.groups) refl refl refl c.in_ok-groups.ensures.windows c.in_ok-plan.ensures.head c.requires.homes
     (all_found (algorithm_of c.args.algo.now) (length (rooted false gs ls)) (rooted false gs ls) c.args.parties.now c.requires.found c.in_ok-groups.ensures.known) c.in_ok-groups.ensures.by
+    c.in_ok-groups.ensures.known

@@ -1,0 +1,204 @@
+-- Which rule a function breaks that is computed inside loops: over what its turns need of it, wherever it stands.
+use Rattle.std.specs.Prelude.{ℕ, ◌==◌, nat_lt, ℤ, pos, int_lt, int_le, Bool, true, false, not, ◌&&◌, ◌||◌, if◌then◌else◌, List, [], ◌∷◌, Option, Some, None, Result, Ok, Err}
+use Rattle.std.specs.List.{list_any}
+use Rattle.lin.specs.Forms.{Form}
+use Rattle.lin.specs.Search.{sup_of_difference}
+use Rattle.lin.specs.declared.scope.Binding.{Binding}
+use Rattle.lin.specs.declared.span.Span1.{Span1}
+use Rattle.meaning.specs.Algorithm.{Algorithm}
+use Rattle.meaning.specs.Names.{same_name}
+use Rattle.sched.specs.declared.error.Rule.{Rule}
+use Rattle.sched.specs.declared.schedule.Split.{Split}
+use Rattle.sched.specs.declared.numbers.Numbers.{Numbers}
+use Rattle.sched.specs.declared.region_rule.RegionRule.{RegionRule}
+use Rattle.sched.specs.declared.region_rule.RegionRule.TheVariants.{OutsideUse, ShortShift, SmallFold, TooLarge, TooMuch, Unbounded}
+use Rattle.sched.specs.Numbers.{loop_numbers, numbers_named}
+use Rattle.sched.specs.Placing.{is_shifted}
+use Rattle.sched.specs.RegionRules.{region_number}
+use Rattle.sched.specs.Rules.{number_of}
+use Rattle.sched.specs.Standing.{◌>>=◌}
+use Rattle.lower.specs.Blocks.{difference}
+use Rattle.lower.specs.Bounded.{is_bounded}
+use Rattle.lower.specs.declared.legality.Totals.{Totals}
+use Rattle.lower.specs.Faults.{are_whole, no_totals, with_laid, fault_within, totals_with, or_later, first_laid, other_laid}
+use Rattle.lower.specs.Parted.{add_extents}
+use Rattle.lower.specs.Placed.{LaterText, PlacedText}
+use Rattle.lower.specs.Regions.{LaidText}
+use Rattle.lower.specs.Stored.{FormulaText, StoredText, is_large, has_large}
+use Rattle.lower.specs.Taken.{shortest}
+use Rattle.lower.specs.Uses.{is_used_outside}
+use Rattle.lower.specs.Windows.{fewer}
+
+-- ---- too few numbers for a block
+
+-- the fewest numbers that there are in some turn from a lower form to one of these upper ones, or as many as these; None where bounds do not tell it of one of them
+abbrev pub least_from : List Binding → Form → List Form → Option ℤ → Option ℤ
+least_from scope low [] least = least
+least_from scope low (h ∷ hs) least = sup_of_difference scope low h >>= λ most. least_from scope low hs (fewer least (Some (difference (pos 1) most)))
+
+abbrev pub least_over : List Binding → List Form → List Form → Option ℤ → Option ℤ
+least_over scope [] upper least = least
+least_over scope (f ∷ fs) upper least = least_from scope f upper None >>= λ count. least_over scope fs upper (fewer least (Some count))
+
+-- the fewest numbers that a dimension has in one turn
+abbrev pub least_of : List Binding → Span1 → Option ℤ
+least_of scope s = least_over scope s.lower s.upper None
+
+-- so few, or bounds do not tell how many there are
+abbrev pub is_fewer : Option ℤ → ℕ → Bool
+is_fewer None n = true
+is_fewer (Some count) n = int_lt count (pos n)
+
+-- the variable's loop is split with `shift` into blocks of more numbers than some turn has; a block of one number has none too many
+abbrev pub is_short_of : List ℕ → Option ℤ → Split → Bool
+is_short_of x least c = is_shifted c && (nat_lt 1 c.factor && (same_name c.whole x && is_fewer least c.factor))
+
+-- of one of these variables, over these spans
+abbrev pub are_short : List Split → List Binding → List (List ℕ) → List Span1 → Bool
+are_short cs scope [] ss = false
+are_short cs scope (x ∷ xs) [] = false
+are_short cs scope (x ∷ xs) (s ∷ ss) = list_any (is_short_of x (least_of scope s)) cs || are_short cs scope xs ss
+
+-- the same of a loop that a split makes: with the most numbers that a turn has
+abbrev pub is_short_half : List Numbers → List (List ℕ) → Split → Bool
+is_short_half rs xs c = is_shifted c && (not (list_any (same_name c.whole) xs) && nat_lt (numbers_named rs c.whole).count c.factor)
+
+-- in some turn a loop that is split with `shift` has fewer numbers than a block, over what that turn needs; None where bounds tell no extents
+abbrev pub has_short_turn : StoredText → List Binding → List Span1 → Option Bool
+has_short_turn g scope r =
+    if are_short g.placed.cuts scope g.subject.variables r then Some true
+    else (add_extents scope r [] >>= λ es. Some (list_any (is_short_half (loop_numbers g.subject.variables g.placed.cuts es) g.subject.variables) g.placed.cuts))
+
+-- ---- where it is computed
+
+-- one turn needs no more numbers of any dimension than a function may have
+abbrev pub is_small_span : List Binding → Span1 → Bool
+is_small_span scope s = elim (shortest scope s) [ Some b ↦ int_le b.1 (pos 8192) | None ↦ false ]
+
+abbrev pub is_small : List Binding → List Span1 → Bool
+is_small scope [] = true
+is_small scope (s ∷ ss) = if is_small_span scope s then is_small scope ss else false
+
+-- L8: in the first turn of its loop, or in each, and in those after the first one, where these make what is new alone
+abbrev pub is_later_short : StoredText → Option LaterText → Option Bool
+is_later_short g None = Some false
+is_later_short g (Some l) = has_short_turn g l.scope l.region
+
+abbrev pub is_short : PlacedText → Option Bool
+is_short i = has_short_turn i.function i.scope i.region >>= λ b. if b then Some true else is_later_short i.function i.later
+
+abbrev pub unless_bounded : Bool → Option RegionRule
+unless_bounded b = if b then None else Some Unbounded
+
+-- L12 where a bound is missing
+abbrev pub or_unbounded : Option (Option RegionRule) → Option RegionRule
+or_unbounded None = Some Unbounded
+or_unbounded (Some r) = r
+
+module _ (a : Algorithm) where
+  -- L12: each index of the input and of the function itself is shown to lie where it may, in both
+  abbrev pub is_later_bounded : PlacedText → Option LaterText → Option Bool
+  is_later_bounded i None = Some true
+  is_later_bounded i (Some l) = is_bounded a i.function l.scope i.region 0 i.formulas l.nests
+
+  abbrev pub are_nests_bounded : PlacedText → Option Bool
+  are_nests_bounded i = is_bounded a i.function i.scope i.region 0 i.formulas i.nests >>= λ b. if b then is_later_bounded i i.later else Some false
+
+  abbrev pub is_inner_bounded : PlacedText → Option Bool
+  is_inner_bounded i = if i.is_small then are_nests_bounded i else Some false
+
+  -- L9 where it does not fit its folds
+  abbrev pub unless_fit : PlacedText → Option (Option RegionRule)
+  unless_fit i = if i.fits then (is_inner_bounded i >>= λ b. Some (unless_bounded b)) else Some (Some SmallFold)
+
+  abbrev pub broken_by : PlacedText → Option (Option RegionRule)
+  broken_by i = is_short i >>= λ b. if b then Some (Some ShortShift) else unless_fit i
+
+  -- the rule of the lowest number that it breaks there
+  abbrev pub fault_at : PlacedText → Option RegionRule
+  fault_at i = or_unbounded (broken_by i)
+
+-- ---- wherever it is computed
+
+-- the one of the lower number, the first of two that have the same
+abbrev pub lower_of : Option RegionRule → Option RegionRule → Option RegionRule
+lower_of None o = o
+lower_of (Some r) None = Some r
+lower_of (Some r) (Some q) = if nat_lt (region_number q) (region_number r) then Some q else Some r
+
+-- what is computed inside the loops of a group, or the name of a function of which a bound is missing there
+abbrev pub Inside : Type 0
+Inside = Result (List PlacedText) (List ℕ)
+
+module _ (a : Algorithm) (x : List ℕ) where
+  abbrev pub with_fault : PlacedText → Option RegionRule → Option RegionRule
+  with_fault i known = if same_name i.function.subject.name x then lower_of known (fault_at a i) else known
+
+  -- with what the function of this name breaks at each place among these
+  abbrev pub with_faults : List PlacedText → Option RegionRule → Option RegionRule
+  with_faults [] known = known
+  with_faults (i ∷ is) known = with_faults is (with_fault i known)
+
+  -- in a group: L12 where it is the one of which a bound is missing
+  abbrev pub fault_among : Inside → Option RegionRule → Option RegionRule
+  fault_among (Ok is) known = with_faults is known
+  fault_among (Err y) known = if same_name y x then lower_of known (Some Unbounded) else known
+
+  -- in all of them
+  abbrev pub faults_among : List Inside → Option RegionRule → Option RegionRule
+  faults_among [] known = known
+  faults_among (i ∷ is) known = faults_among is (fault_among i known)
+
+  abbrev pub fault_inside : List Inside → Option RegionRule
+  fault_inside is = faults_among is None
+
+-- ---- of all functions
+
+-- some function leaves others without regions: where a rule is broken that this one tells, it is computed at no loop that is there; or it is too large, or used outside of
+-- the loop at which it is computed
+abbrev pub is_home_rule : Option (Rule × List ℕ) → Bool
+is_home_rule None = false
+is_home_rule (Some e) = number_of e.0 == 6
+
+abbrev pub leaves : List StoredText → StoredText → Bool
+leaves gs g = is_large g || is_used_outside gs g
+
+abbrev pub leaves_some : List StoredText → Option (Rule × List ℕ) → Bool
+leaves_some gs o = is_home_rule o || list_any (leaves gs) gs
+
+abbrev pub leaves_others : List StoredText → Option (Rule × List ℕ) → Bool
+leaves_others gs o = if are_whole gs then has_large gs else leaves_some gs o
+
+-- of a root function as `Faults` has it, of another one wherever it is computed
+abbrev pub fault_of_kind : Algorithm → List Inside → Totals → StoredText → List FormulaText → LaidText → Option RegionRule
+fault_of_kind a inside t g fs l = if g.subject.is_root then fault_within a g fs (with_laid t l) l else fault_inside a g.subject.name inside
+
+module _ (a : Algorithm) (inside : List Inside) (missed : Bool) where
+  abbrev pub fault_over : Totals → StoredText → List FormulaText → Option LaidText → Option RegionRule
+  fault_over t g fs None = if missed then None else Some Unbounded
+  fault_over t g fs (Some l) = fault_of_kind a inside t g fs l
+
+  abbrev pub fault_by : Totals → StoredText → Option (List FormulaText) → Option LaidText → Option RegionRule
+  fault_by t g None l = Some TooLarge
+  fault_by t g (Some fs) l = fault_over t g fs l
+
+  abbrev pub fault_of : Totals → StoredText → Option LaidText → Option RegionRule
+  fault_of t g l = fault_by t g g.formulas l
+
+-- root functions alone count
+abbrev pub totals_of : Totals → StoredText → Option LaidText → Totals
+totals_of t g l = if g.subject.is_root then totals_with t g l else t
+
+module _ (a : Algorithm) (all : List StoredText) (inside : List Inside) (missed : Bool) where
+  -- L6 first, where it is used outside of its loop
+  abbrev pub rule_of : Totals → StoredText → Option LaidText → Option RegionRule
+  rule_of t g l = if is_used_outside all g then Some OutsideUse else fault_of a inside missed t g l
+
+  -- the first of these functions, in the order of declaration, that breaks a rule, and the rule of the lowest number, behind others that have these totals
+  abbrev pub first_from : Totals → List StoredText → List (Option LaidText) → Option (RegionRule × List ℕ)
+  first_from t [] ls = None
+  first_from t (g ∷ gs) ls = or_later g (rule_of t g (first_laid ls)) (first_from (totals_of t g (first_laid ls)) gs (other_laid ls))
+
+-- of all of them over these regions, where these are computed inside, and a rule that asks for no region is broken, or none
+abbrev pub first_over : Algorithm → List StoredText → Option (Rule × List ℕ) → List (Option LaidText) → List Inside → Option (RegionRule × List ℕ)
+first_over a gs o ls inside = first_from a gs inside (leaves_others gs o) no_totals gs ls
