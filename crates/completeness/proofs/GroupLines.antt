@@ -29,16 +29,16 @@ use Rattle.completeness.proofs.ClaimLines.{named_here}
 
 -- ---- stored functions stand in the order of declaration
 
-record Rises (fs : List Function) (g h : StoredText) : Type 0 where
-  first : ℕ
-  second : ℕ
-  one : Function
-  two : Function
-  at_one : slice_get fs first ≡ Some one
-  at_two : slice_get fs second ≡ Some two
-  order : first < second
-  named_one : one.name ≡ g.subject.name
-  named_two : two.name ≡ h.subject.name
+pub record Rises (fs : List Function) (g h : StoredText) : Type 0 where
+  pub first : ℕ
+  pub second : ℕ
+  pub one : Function
+  pub two : Function
+  pub at_one : slice_get fs first ≡ Some one
+  pub at_two : slice_get fs second ≡ Some two
+  pub order : first < second
+  pub named_one : one.name ≡ g.subject.name
+  pub named_two : two.name ≡ h.subject.name
 
 module _ (a : Algorithm) (s : Schedule) (st : List Bool) where
   abbrev text : Function → StoredText
@@ -60,7 +60,7 @@ module _ (a : Algorithm) (s : Schedule) (st : List Bool) where
     named_two = r.named_two;
   })
 
-  rises : (fs : List Function) (m n : ℕ) (g h : StoredText) → m < n → slice_get (among_these fs) m ≡ Some g → slice_get (among_these fs) n ≡ Some h → Rises fs g h
+  pub rises : (fs : List Function) (m n : ℕ) (g h : StoredText) → m < n → slice_get (among_these fs) m ≡ Some g → slice_get (among_these fs) n ≡ Some h → Rises fs g h
   rises [] m n g h less one two = absurd (cc one)
   rises (f ∷ fs) m n g h less one two = of (subject_said a s f).is_stored m n less one two (λ i j k x y. rises fs i j g h k x y)
     where
@@ -88,7 +88,7 @@ module _ (a : Algorithm) (s : Schedule) (st : List Bool) where
 
 -- ---- regions
 
-no_other : (es : List Extent) → RegionNamesOther [] (map whole es) → ⊥
+pub no_other : (es : List Extent) → RegionNamesOther [] (map whole es) → ⊥
 no_other es (k, x, less, is, other) =
     let y = at_below (map whole es) k less in
     let z = from_map whole es k y.0 y.1 in
@@ -101,13 +101,13 @@ no_other es (k, x, less, is, other) =
     numbers e (inr (zero, f, l, at, (j, t, none, rest, named))) = absurd (let same = ap (λ (g : _). length g.terms) at in omega (arith, none, same))
     numbers e (inr (suc n, f, l, at, other)) = absurd (omega (arith, l))
 
-taken_at : {A : Type 0} (xs : List A) (n k : ℕ) (x : A) → slice_get (take n xs) k ≡ Some x → (k < n) × (slice_get xs k ≡ Some x)
+pub taken_at : {A : Type 0} (xs : List A) (n k : ℕ) (x : A) → slice_get (take n xs) k ≡ Some x → (k < n) × (slice_get xs k ≡ Some x)
 taken_at xs zero k x e = absurd (cc e)
 taken_at [] (suc n) k x e = absurd (cc e)
 taken_at (y ∷ xs) (suc n) zero x e = (omega arith, e)
 taken_at (y ∷ xs) (suc n) (suc k) x e = let r = taken_at xs n k x e in let less = r.0 in (omega (arith, less), r.1)
 
-whole_long : (es : List Extent) → length (map whole es) ≡ length es
+pub whole_long : (es : List Extent) → length (map whole es) ≡ length es
 whole_long [] = refl
 whole_long (e ∷ es) = ap suc (whole_long es)
 

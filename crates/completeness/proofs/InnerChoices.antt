@@ -54,7 +54,7 @@ use Rattle.completeness.proofs.WalkedTurns.{IsLoopOf, IsApart, rises_apart, Choo
 use Rattle.completeness.proofs.InnerLets.{IsNamed}
 use Rattle.completeness.proofs.InnerShapes.{IsInner}
 use Rattle.completeness.proofs.InnerBodies.{over_region}
-use Rattle.completeness.proofs.InnerStored.{IsGroupAt, group_there, gs, ordered_rise}
+use Rattle.completeness.proofs.InnerStored.{IsGroupAt, all_found, group_there, gs, ordered_rise}
 
 -- ---- places
 
@@ -367,7 +367,7 @@ module _ (a : Algorithm) (sch : Schedule) (l : Lowered) (well : IsAlgorithm a) (
     mixed_chooses inners inside known n first line next claims needs windows b =
         let s0 = with_fetched b.fetches b.lines_of b.fetched (begun first line k) in
         let o = group_owner e (claimed_region (dimensions_of e.0 e.1.region k)) in
-        let found = found_there a (length others) entries others groups.placed.inside.placed groups.placed.inside.found h e inners g.body.at inside in
+        let found = found_there a (length others) entries others groups.placed.inside.placed (all_found a sch l well groups) h e inners g.body.at inside in
         let computed = all_computed a e others (length others) [] inners found (λ j i at. absurd (cc at)) in
         let steps : (j : ℕ) (i : PlacedText) → slice_get inners j ≡ Some i → AreSteps IsApart IsNamed i =
         λ j i at. let u = known j i at in record {

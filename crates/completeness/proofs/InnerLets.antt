@@ -30,17 +30,11 @@ use Rattle.lower.proofs.Laying.{bound, same}
 abbrev Given : (A B : Type 0) → (A → B) → Type 0
 Given A B f = B
 
-abbrev First : (A B : Type 0) → (A → B) → Type 0
-First A B f = A
-
 abbrev Third : (A B C D : Type 0) → (A → B → C → D) → Type 0
 Third A B C D f = C
 
 abbrev Blocks : Type 0
 Blocks = Given _ _ (with_block (alone 0) (alone 0))
-
-abbrev Run : Type 0
-Run = First _ _ with_run
 
 abbrev Tally : Type 0
 Tally = Third _ _ _ _ is_counted

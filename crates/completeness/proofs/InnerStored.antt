@@ -35,6 +35,7 @@ use Rattle.lower.specs.Regions.{bodies_from, skeleton_of}
 use Rattle.lower.specs.Blocks.{dimensions_of, claimed_region}
 use Rattle.lower.specs.Fetches.{Entry, FetchText, loads_from, with_fetches}
 use Rattle.lower.specs.Placed.{PlacedText, AreFetchedBy, IsMixedBody, with_fetched, begun, names_over, group_owner, picked, numbered}
+use Rattle.lower.specs.Computed.{AreAllFound}
 use Rattle.lower.specs.Groups.{rooted, HasBody, HasGroups, IsOver, IsBodyBy}
 use Rattle.completeness.specs.Laws.{NamesNoLoad}
 use Rattle.completeness.specs.Inside.{AreAllStored, AllDefinitionsAreStored}
@@ -104,10 +105,14 @@ module _ (a : Algorithm) (sch : Schedule) (l : Lowered) (well : IsAlgorithm a) (
 
   -- ---- groups
 
+  -- which functions are computed inside the loops of each group
+  pub all_found : AreAllFound a (length others) entries others placed
+  all_found = groups.placed.inside.stand.found
+
   -- what is computed inside the loops of a group
   pub known_inside : (h : ℕ) (e : Entry) (us : List PlacedText) → slice_get entries h ≡ Some e → slice_get placed h ≡ Some us → (k : ℕ) (i : PlacedText) → slice_get us k ≡ Some i → IsInner gs i
   known_inside h e us at inside =
-      inners_at a gs (length others) entries others placed (λ k c t. entry_of false gs groups.placed.regions k c t) groups.placed.inside.found h e us at inside
+      inners_at a gs (length others) entries others placed (λ k c t. entry_of false gs groups.placed.regions k c t) all_found h e us at inside
 
   -- the group of a number: its entry, and its body with the functions inside its loops
   pub record IsGroupAt (h : ℕ) (q : CodeGroup) : Type 0 where

@@ -58,6 +58,8 @@ pub mod LoopedLimited
 pub mod LoopedRounded
 pub mod LoopedInners
 pub mod LoopedNests
+pub mod LoopedNeeds
+pub mod LoopedTold
 pub mod LoopedForms
 pub mod Lines
 pub mod Widened
@@ -242,3 +244,4 @@ pub mod InnerStored
 pub mod InnerLines
 pub mod InnerPublished
 pub mod InnerChoices
+pub mod InnerGroups

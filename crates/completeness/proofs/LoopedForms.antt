@@ -10,7 +10,6 @@ use Rattle.lin.specs.Forms.{Form, number, combined}
 use Rattle.lin.specs.declared.form.Multiple.{Multiple}
 use Rattle.lin.specs.declared.span.Span1.{Span1}
 use Rattle.bounds.proofs.ListSound.{all-append}
-use Rattle.headline.proofs.Members.{got}
 use Rattle.headline.proofs.Lists.{from_map}
 use Rattle.plan.specs.declared.plan.Group.{Group as CodeGroup}
 use Rattle.plan.specs.declared.stmt.Places.{Places}
@@ -45,7 +44,7 @@ use Rattle.lower.specs.Computed.{IsComputed}
 use Rattle.lower.specs.Groups.{rooted, IsBodyBy, HasGroups}
 use Rattle.lower.proofs.Laying.{bound, same}
 use Rattle.completeness.specs.Laws.{IsNestLine, IsWideInside}
-use Rattle.completeness.specs.Looped.{AreRegions, AreRegionsWithin, NestLinesAreWithin, GroupLinesAreWithin}
+use Rattle.completeness.specs.Looped.{AreRegions, NestLinesAreWithin, GroupLinesAreWithin}
 use Rattle.completeness.proofs.Laid.{subjects, found, arranged}
 use Rattle.completeness.proofs.Halves.{named}
 use Rattle.completeness.proofs.Limited.{Limited, AreLimited, LimitedIf, IsBodySmall, StepIs, IsNestLimited, IsLimited, bodies_small, combined_limited, skeleton_limited}
@@ -58,6 +57,7 @@ use Rattle.completeness.proofs.LoopedOwned.{IsRooted, rooted_at, laid_by, skelet
 use Rattle.completeness.proofs.LoopedWalk.{NestIs, InnerIs, group_clear}
 use Rattle.completeness.proofs.LoopedLimited.{StepFits}
 use Rattle.completeness.proofs.LoopedInners.{AnyPlace, inner_is}
+use Rattle.completeness.proofs.LoopedTold.{inner_within}
 use Rattle.completeness.proofs.LoopedNests.{found_all, found_at, body_at}
 
 -- ---- under other names
@@ -214,74 +214,67 @@ module _ (a : Algorithm) (s : Schedule) (l : Lowered) (well : IsAlgorithm a) (le
       let so : RegionIsWide x.0.region = subst (λ (u : Group). RegionIsWide u.region) x.2 h.so in
       region_not_wide w.entry.1.region laid.extents (subst RegionIsWide w.region so)
 
-  module _ (narrow : AreRegionsWithin groups.placed.inside.placed) where
-    abbrev es : List Entry
-    es = rooted false gs ls
+  abbrev es : List Entry
+  es = rooted false gs ls
 
-    one_inner : (e : Entry) (is : List PlacedText) (k : ℕ) (c : Entry) → slice_get es k ≡ Some c → (i : PlacedText) → IsComputed a e es is c i → AllByRecursion SpanLimited i.region →
-        InnerIs StepFits LimitedIf AnyPlace i
-    one_inner e is k c at i h region =
-        let r = rooted_at false gs ls k c at in
-        inner_is a e es is c i (factors r.place c.0 r.stored) (small r.place c.0 c.2 r.stored) region h
+  one_inner : (e : Entry) (is : List PlacedText) (k : ℕ) (c : Entry) → slice_get es k ≡ Some c → (i : PlacedText) → IsComputed a e es is c i → InnerIs StepFits LimitedIf AnyPlace i
+  one_inner e is k c at i h =
+      let r = rooted_at false gs ls k c at in
+      let laid = laid_by a s l well legal groups within false c r in
+      inner_is a e es is c i (factors r.place c.0 r.stored) (small r.place c.0 c.2 r.stored) (inner_within a e es is c i laid.extents h) h
 
-    inners_are : (n : ℕ) (e : Entry) (is : List PlacedText) → slice_get (rooted true gs ls) n ≡ Some e → slice_get groups.placed.inside.placed n ≡ Some is →
-        AllByRecursion (InnerIs StepFits LimitedIf AnyPlace) is
-    inners_are n e is at there =
-        let f = found_at a (length es) (rooted true gs ls) es groups.placed.inside.placed groups.placed.inside.found n e is at there in
-        let all = found_all a e es (λ i. AllByRecursion SpanLimited i.region → InnerIs StepFits LimitedIf AnyPlace i) (λ js k c place i h. one_inner e js k c place i h) (length es) [] is tt f in
-        both is all (got (AllByRecursion (λ i. AllByRecursion SpanLimited i.region)) groups.placed.inside.placed n is narrow there)
-      where
-        both : (is : List PlacedText) → AllByRecursion (λ i. AllByRecursion SpanLimited i.region → InnerIs StepFits LimitedIf AnyPlace i) is →
-            AllByRecursion (λ i. AllByRecursion SpanLimited i.region) is → AllByRecursion (InnerIs StepFits LimitedIf AnyPlace) is
-        both [] h k = tt
-        both (i ∷ is) h k = (h.0 k.0, both is h.1 k.1)
+  inners_are : (n : ℕ) (e : Entry) (is : List PlacedText) → slice_get (rooted true gs ls) n ≡ Some e → slice_get groups.placed.inside.placed n ≡ Some is →
+      AllByRecursion (InnerIs StepFits LimitedIf AnyPlace) is
+  inners_are n e is at there =
+      let f = found_at a (length es) (rooted true gs ls) es groups.placed.inside.placed groups.placed.inside.stand.found n e is at there in
+      found_all a e es (InnerIs StepFits LimitedIf AnyPlace) (λ js k c place i h. one_inner e js k c place i h) (length es) [] is tt f
 
-    -- a group inside whose loops none is computed
-    bare_clear : (n c line : ℕ) (e : Entry) (body : Statement) (claims : _) (needs : _) → IsRooted true gs ls e →
-        IsBody a (rooted true gs ls) n c line e.0 e.2 e.1.skeleton (dimensions_of e.0 e.1.region e.1.skeleton) claims needs body → Clear P body
-    bare_clear n c line e body claims needs h b =
-        let k = e.1.skeleton in
-        let lim = limited e h in
-        let publish : List Statement = Publish (last_claim c b.fetches k) ∷ [] in
-        let places = own_places (dimensions_of e.0 e.1.region k) in
-        let nests = plain_clear e.0 e.2 _ _ _ _ 0 k.nests b.nests b.own b.nested lim.nests in
-        let inner = fetches_clear b.fetches (b.nests ++ publish) (joined_clear P b.nests publish nests ((λ w. neither w.0), tt)) in
-        subst (Clear P) (sym b.with.is) (steps_clear k.head (block (Alloc 0 e.0.subject.name places ∷ with_fetches b.fetches (b.nests ++ publish))) lim.head ((λ w. neither w.0), inner))
+  -- a group inside whose loops none is computed
+  bare_clear : (n c line : ℕ) (e : Entry) (body : Statement) (claims : _) (needs : _) → IsRooted true gs ls e →
+      IsBody a (rooted true gs ls) n c line e.0 e.2 e.1.skeleton (dimensions_of e.0 e.1.region e.1.skeleton) claims needs body → Clear P body
+  bare_clear n c line e body claims needs h b =
+      let k = e.1.skeleton in
+      let lim = limited e h in
+      let publish : List Statement = Publish (last_claim c b.fetches k) ∷ [] in
+      let places = own_places (dimensions_of e.0 e.1.region k) in
+      let nests = plain_clear e.0 e.2 _ _ _ _ 0 k.nests b.nests b.own b.nested lim.nests in
+      let inner = fetches_clear b.fetches (b.nests ++ publish) (joined_clear P b.nests publish nests ((λ w. neither w.0), tt)) in
+      subst (Clear P) (sym b.with.is) (steps_clear k.head (block (Alloc 0 e.0.subject.name places ∷ with_fetches b.fetches (b.nests ++ publish))) lim.head ((λ w. neither w.0), inner))
 
-    -- and one inside whose loops some are
-    mixed_clear : (n c line next : ℕ) (is : List PlacedText) (e : Entry) (body : Statement) (claims : _) (needs : _) (windows : _) → IsRooted true gs ls e →
-        AllByRecursion (InnerIs StepFits LimitedIf AnyPlace) is → IsMixedBody (rooted true gs ls) n c line next is e claims needs windows body → Clear P body
-    mixed_clear n c line next is e body claims needs windows h inners b =
-        let k = e.1.skeleton in
-        let lim = limited e h in
-        let ds = dimensions_of e.0 e.1.region k in
-        let publish : List Statement = Publish (b.done.claim - 1) ∷ [] in
-        let nests = group_clear P StepFits LimitedIf AnyPlace step_clear store_clear alloc_clear first_clear is inners (length is) (group_owner e (claimed_region ds)) k.nests (own_nests
-        k.nests lim.nests)
-        (names_over k) (with_fetched b.fetches b.lines_of b.fetched (begun c line k)) (b.nests, b.done) b.made in
-        let inner = fetches_clear b.fetches (b.nests ++ publish) (joined_clear P b.nests publish nests ((λ w. neither w.0), tt)) in
-        subst (Clear P) (sym b.with.is) (steps_clear k.head (block (Alloc 0 e.0.subject.name (own_places ds) ∷ with_fetches b.fetches (b.nests ++ publish))) lim.head ((λ w. neither w.0), inner))
+  -- and one inside whose loops some are
+  mixed_clear : (n c line next : ℕ) (is : List PlacedText) (e : Entry) (body : Statement) (claims : _) (needs : _) (windows : _) → IsRooted true gs ls e →
+      AllByRecursion (InnerIs StepFits LimitedIf AnyPlace) is → IsMixedBody (rooted true gs ls) n c line next is e claims needs windows body → Clear P body
+  mixed_clear n c line next is e body claims needs windows h inners b =
+      let k = e.1.skeleton in
+      let lim = limited e h in
+      let ds = dimensions_of e.0 e.1.region k in
+      let publish : List Statement = Publish (b.done.claim - 1) ∷ [] in
+      let nests = group_clear P StepFits LimitedIf AnyPlace step_clear store_clear alloc_clear first_clear is inners (length is) (group_owner e (claimed_region ds)) k.nests (own_nests
+      k.nests lim.nests)
+      (names_over k) (with_fetched b.fetches b.lines_of b.fetched (begun c line k)) (b.nests, b.done) b.made in
+      let inner = fetches_clear b.fetches (b.nests ++ publish) (joined_clear P b.nests publish nests ((λ w. neither w.0), tt)) in
+      subst (Clear P) (sym b.with.is) (steps_clear k.head (block (Alloc 0 e.0.subject.name (own_places ds) ∷ with_fetches b.fetches (b.nests ++ publish))) lim.head ((λ w. neither w.0), inner))
 
-    body_clear : (n c line next : ℕ) (is : List PlacedText) (e : Entry) (p : CodeGroup) (claims : _) (needs : _) (windows : _) → IsRooted true gs ls e →
-        AllByRecursion (InnerIs StepFits LimitedIf AnyPlace) is → IsBodyBy a (rooted true gs ls) n c line next is e p claims needs windows → Clear P (statement_of p.body)
-    body_clear n c line next [] e p claims needs windows h inners b = bare_clear n c line e (statement_of p.body) claims needs h b.0
-    body_clear n c line next (i ∷ is) e p claims needs windows h inners b = mixed_clear n c line next (i ∷ is) e (statement_of p.body) claims needs windows h inners b
+  body_clear : (n c line next : ℕ) (is : List PlacedText) (e : Entry) (p : CodeGroup) (claims : _) (needs : _) (windows : _) → IsRooted true gs ls e →
+      AllByRecursion (InnerIs StepFits LimitedIf AnyPlace) is → IsBodyBy a (rooted true gs ls) n c line next is e p claims needs windows → Clear P (statement_of p.body)
+  body_clear n c line next [] e p claims needs windows h inners b = bare_clear n c line e (statement_of p.body) claims needs h b.0
+  body_clear n c line next (i ∷ is) e p claims needs windows h inners b = mixed_clear n c line next (i ∷ is) e (statement_of p.body) claims needs windows h inners b
 
-    none_at : (line : ℕ) → IsWideInside IsNestLine (plan_of l.plan) line → ⊥
-    none_at line h =
-        let x = from_map group_of l.plan.groups.items h.number h.group h.there in
-        let c = l.certificate in
-        let b = body_at a (rooted true gs ls) 0 0 4 groups.placed.inside.placed (rooted true gs ls) l.plan.groups.items c.claims.items c.needs.items c.windows.items groups.placed.inside.bodies
-        h.number x.0 x.1 in
-        let entry = rooted_at true gs ls h.number b.entry b.is in
-        let inners = inners_are h.number b.entry b.inners b.is b.inside in
-        let clear = body_clear b.number b.first b.line b.next b.inners b.entry x.0 b.claims b.needs b.windows entry inners b.body in
-        let begun : Group → Here = λ u. start (line_told (group_line (plan_of l.plan) h.number)) u in
-        let stands = subst (λ (u : Group). Inside (λ s here. (line_told here.line ≡ line) × P s) u.body (begun u)) x.2 h.stands in
-        none_inside P line (statement_of x.0.body) clear (begun (group_of x.0)) stands
+  none_at : (line : ℕ) → IsWideInside IsNestLine (plan_of l.plan) line → ⊥
+  none_at line h =
+      let x = from_map group_of l.plan.groups.items h.number h.group h.there in
+      let c = l.certificate in
+      let b = body_at a (rooted true gs ls) 0 0 4 groups.placed.inside.placed (rooted true gs ls) l.plan.groups.items c.claims.items c.needs.items c.windows.items groups.placed.inside.bodies
+      h.number x.0 x.1 in
+      let entry = rooted_at true gs ls h.number b.entry b.is in
+      let inners = inners_are h.number b.entry b.inners b.is b.inside in
+      let clear = body_clear b.number b.first b.line b.next b.inners b.entry x.0 b.claims b.needs b.windows entry inners b.body in
+      let begun : Group → Here = λ u. start (line_told (group_line (plan_of l.plan) h.number)) u in
+      let stands = subst (λ (u : Group). Inside (λ s here. (line_told here.line ≡ line) × P s) u.body (begun u)) x.2 h.stands in
+      none_inside P line (statement_of x.0.body) clear (begun (group_of x.0)) stands
 
 pub nests_within : NestLinesAreWithin
-nests_within a s l well legal groups within narrow line h = none_at a s l well legal groups within narrow line h
+nests_within a s l well legal groups within line h = none_at a s l well legal groups within line h
 
 pub groups_within : GroupLinesAreWithin
 groups_within a s l well legal groups within line h = begins_clear a s l well legal groups within line h

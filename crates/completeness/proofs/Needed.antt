@@ -42,7 +42,7 @@ Part = Given _ _ (λ s. seated [] [] 0 s)
 
 -- ---- calls
 
-abbrev CallsLimited : List (List Span1) → Type 0
+abbrev pub CallsLimited : List (List Span1) → Type 0
 CallsLimited cs = AllByRecursion (AllByRecursion SpanLimited) cs
 
 module _ (a : Algorithm) (r : AroundText) where
@@ -67,7 +67,7 @@ module _ (a : Algorithm) (r : AroundText) where
   calls_limited x (w ∷ ws) before cs h q =
       let b = bound (add_call a r x w before) (add_calls a r x ws) cs q in calls_limited x ws b.value cs (call_limited x w before b.value h b.is) b.comes
 
-abbrev SiteLimited : SiteText → Type 0
+abbrev pub SiteLimited : SiteText → Type 0
 SiteLimited t = CallsLimited t.calls
 
 site_limited : (scope : List Binding) (cs : List (List Span1)) (before : List SiteText) → CallsLimited cs → AllByRecursion SiteLimited before → AllByRecursion SiteLimited (with_site scope cs before)
@@ -75,7 +75,7 @@ site_limited scope [] before k h = h
 site_limited scope (c ∷ cs) before k h = all-append SiteLimited before (record { scope = scope; calls = c ∷ cs } ∷ []) h (k, tt)
 
 module _ (a : Algorithm) (g : StoredText) (outer : List Binding) (x : List ℕ) where
-  one_limited : (d : ℕ) (f : FormulaText) (n : NestText) (before ss : List SiteText) → AllByRecursion SiteLimited before → add_site a g outer x d f n before ≡ Some ss →
+  pub one_limited : (d : ℕ) (f : FormulaText) (n : NestText) (before ss : List SiteText) → AllByRecursion SiteLimited before → add_site a g outer x d f n before ≡ Some ss →
       AllByRecursion SiteLimited ss
   one_limited d f n before ss h e =
       let b = bound (around a g outer n f d) (λ r. add_calls a r x (calls_in f) [] >>= λ cs. Some (with_site r.scope cs before)) ss e in
@@ -141,7 +141,7 @@ cut_limited s e extent h =
 
 -- ---- what is needed
 
-freed_limited : (scope : List Binding) (inner : List ℕ) (s f : Span1) → SpanLimited s → freed scope inner s ≡ Some f → SpanLimited f
+pub freed_limited : (scope : List Binding) (inner : List ℕ) (s f : Span1) → SpanLimited s → freed scope inner s ≡ Some f → SpanLimited f
 freed_limited scope [] s f h e = subst SpanLimited (same s f e) h
 freed_limited scope (i ∷ is) s f h e = projected_limited scope (i ∷ is) s f e
 
@@ -175,7 +175,7 @@ module _ (grid : List Binding) where
       let b = bound (with_calls grid t.scope inner d t.calls known) (with_sites grid d ss) o e in
       sites_needed d ss b.value o a.1 (calls_needed t.scope inner d t.calls known b.value a.0 h b.is) b.comes
 
-  span_needed : (d : ℕ) (ss : List SiteText) (s : Span1) → AllByRecursion SiteLimited ss → needed_span grid ss d ≡ Some s → SpanLimited s
+  pub span_needed : (d : ℕ) (ss : List SiteText) (s : Span1) → AllByRecursion SiteLimited ss → needed_span grid ss d ≡ Some s → SpanLimited s
   span_needed d ss s a e =
       let b = bound (with_sites grid d ss None) (λ o. o) s e in
       let h : KnownIf b.value = sites_needed d ss None b.value a tt b.is in

@@ -11,11 +11,13 @@ use Rattle.sched.specs.Schedule.{Schedule}
 use Rattle.sched.specs.Legal.{IsLegal}
 use Rattle.sched.specs.Subjects.{subject_said}
 use Rattle.headline.specs.Head.{FailsHead}
-use Rattle.validation.specs.Groups.Inside.{StandsIn}
-use Rattle.validation.specs.Groups.Wrong.{IsNotDefinitionAt}
+use Rattle.validation.specs.Groups.Inside.{Begins, StandsIn}
+use Rattle.validation.specs.Groups.Wrong.{GroupNamesUnknown, IsNotDefinitionAt}
 use Rattle.validation.specs.Stored.Definitions.{is_stored}
 use Rattle.lower.specs.declared.lowering.Lowered.{Lowered}
+use Rattle.lower.specs.Stored.{stored_functions}
 use Rattle.lower.specs.Groups.{AreGroupsMade}
+use Rattle.completeness.specs.Looped.{AreRegions}
 use Rattle.completeness.specs.Laws.{NamesNoLoad, IsUnknownInside, AreLinesTold, IsPublish}
 
 -- of the plan that is made of whatever schedule
@@ -74,3 +76,10 @@ IsFirst _ = ⊥
 -- nor does a line `first`: its symbol is that of a loop around it (no K2)
 abbrev pub ChoiceLinesAreKnown : Type 0
 ChoiceLinesAreKnown = OfEachSchedule (λ a s p c. (line : ℕ) → ¬ IsUnknownInside IsFirst a p c line)
+
+-- nor does a line `group`, where each region has some numbers for each of its function's variables: each is of a function of its own, with a span of numbers for each variable
+-- (no K2)
+abbrev pub AllGroupLinesAreKnown : Type 0
+AllGroupLinesAreKnown =
+    (a : Algorithm) (s : Schedule) (l : Lowered) → IsAlgorithm a → IsLegal a s → (groups : AreGroupsMade a s l) → AreRegions (stored_functions a s) groups.placed.regions → (line : ℕ)
+    → ¬ Begins (plan_of l.plan) (GroupNamesUnknown a (plan_of l.plan)) line

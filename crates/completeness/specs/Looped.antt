@@ -1,8 +1,6 @@
 -- What the checker asks of the plan that is made of whatever schedule, also where functions are computed inside loops, and that it has it, as far as that is proved.
 use Rattle.std.specs.Prelude.{◌≡◌, ◌⊎◌, ℕ, true, List, [], ◌∷◌, length, Option, Some, None}
 use Rattle.std.specs.List.{AllByRecursion}
-use Rattle.lin.specs.Forms.{Form, is_within_limits}
-use Rattle.lin.specs.declared.span.Span1.{Span1}
 use Rattle.meaning.specs.Algorithm.{Algorithm}
 use Rattle.meaning.specs.Conditions.{IsAlgorithm}
 use Rattle.plan.specs.Plan.{Plan}
@@ -20,7 +18,6 @@ use Rattle.validation.specs.Groups.Inside.{Begins}
 use Rattle.lower.specs.Stored.{StoredText, stored_functions}
 use Rattle.lower.specs.Regions.{LaidText}
 use Rattle.lower.specs.Owning.{IsExtent}
-use Rattle.lower.specs.Placed.{PlacedText}
 use Rattle.lower.specs.Groups.{AreGroupsMade}
 use Rattle.completeness.specs.Laws.{IsNestLine, IsWideInside}
 use Rattle.completeness.specs.Parted.{ArePartedCells, KeepsInner}
@@ -56,25 +53,14 @@ FetchesAndLimitsAreTold = (a : Algorithm) (p : Plan) (c : Certificate) (f : Flaw
 
 -- ---- forms
 
-abbrev pub AreWithin : List Form → Type 0
-AreWithin fs = AllByRecursion (λ f. is_within_limits f ≡ true) fs
-
--- the forms of this region are within the limits of forms
-abbrev pub IsRegionWithin : List Span1 → Type 0
-IsRegionWithin r = AllByRecursion (λ x. AreWithin x.lower × AreWithin x.upper) r
-
--- so are those of what is computed inside the loops of each group
-abbrev pub AreRegionsWithin : List (List PlacedText) → Type 0
-AreRegionsWithin placed = AllByRecursion (AllByRecursion (λ i. IsRegionWithin i.region)) placed
-
 -- no form of a line `group` is out of the limits of forms (K3), where the groups are over regions of numbers of 32 bits
 abbrev pub GroupLinesAreWithin : Type 0
 GroupLinesAreWithin =
     (a : Algorithm) (s : Schedule) (l : Lowered) → IsAlgorithm a → IsLegal a s → (groups : AreGroupsMade a s l) → AreRegions (stored_functions a s) groups.placed.regions → (line : ℕ)
     → ¬ Begins (plan_of l.plan) (λ n g. RegionIsWide g.region) line
 
--- nor is one of a loop, a let, a guard or a store, where the forms of what is computed inside loops are within them
+-- nor is one of a loop, a let, a guard or a store
 abbrev pub NestLinesAreWithin : Type 0
 NestLinesAreWithin =
-    (a : Algorithm) (s : Schedule) (l : Lowered) → IsAlgorithm a → IsLegal a s → (groups : AreGroupsMade a s l) → AreRegions (stored_functions a s) groups.placed.regions
-    → AreRegionsWithin groups.placed.inside.placed → (line : ℕ) → ¬ IsWideInside IsNestLine (plan_of l.plan) line
+    (a : Algorithm) (s : Schedule) (l : Lowered) → IsAlgorithm a → IsLegal a s → (groups : AreGroupsMade a s l) → AreRegions (stored_functions a s) groups.placed.regions → (line : ℕ)
+    → ¬ IsWideInside IsNestLine (plan_of l.plan) line

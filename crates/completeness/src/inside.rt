@@ -1,6 +1,6 @@
 //! Laws of the plans that `lower` makes of whatever schedule: functions may be computed inside loops, whatever is split, and have updates.
 
-ghost use Rattle.completeness.specs.Inside.{AllDefinitionsAreStored, BindingLinesAreKnown, ChoiceLinesAreKnown, HeadsStand, LastLinesAreKnown};
+ghost use Rattle.completeness.specs.Inside.{AllDefinitionsAreStored, AllGroupLinesAreKnown, BindingLinesAreKnown, ChoiceLinesAreKnown, HeadsStand, LastLinesAreKnown};
 
 /// Of whatever schedule a plan is made, its head is the algorithm's (no K1): its name, its input and its output are, and some group is of the output's function.
 pub fn heads_stand()
@@ -29,4 +29,10 @@ pub fn publish_lines_are_known()
 /// Nor does a line `first` of it (no K2): its symbol is that of a loop around it, the one along which the function slides whose lines it chooses.
 pub fn choice_lines_are_known()
     ensures { ChoiceLinesAreKnown }
+{}
+
+/// Nor does a line `group` of it (no K2), where each region has some numbers for each of its function's variables: each is of a function of its own, with a span of
+/// numbers for each of that's variables.
+pub fn group_lines_are_known()
+    ensures { AllGroupLinesAreKnown }
 {}

@@ -20,7 +20,7 @@ pub fn group_lines_are_within()
 {}
 
 /// Nor is a form of a line `for`, `let`, `first`, `guard` or `store` inside a group (no K3), be it of the group's own function or of one that is computed inside
-/// its loops, in each turn or as far as it is new, with or without updates. It is asked that the forms of what is computed inside loops are within the limits.
+/// its loops, in each turn or as far as it is new, with or without updates.
 pub fn nest_lines_are_within()
     ensures { NestLinesAreWithin }
 {}
