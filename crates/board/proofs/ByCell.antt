@@ -54,7 +54,7 @@ grey_place x d one lt =
     ap (sample_place x) same ∙ place_told x d 0 in_plane ∙ (λ i. d * one i + 0) ∙ last
 
 -- at one place one cell's sample stands
-one_cell : (x : Planes) (d e : ℕ) → d < in_planes x → e < in_planes x → sample_place x d ≡ sample_place x e → d ≡ e
+pub one_cell : (x : Planes) (d e : ℕ) → d < in_planes x → e < in_planes x → sample_place x d ≡ sample_place x e → d ≡ e
 one_cell x d e d_lt e_lt is =
     let d_at = stands x d d_lt in
     let e_at = stands x e e_lt in

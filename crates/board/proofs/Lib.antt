@@ -8,3 +8,4 @@ pub mod Closing
 pub mod Colours
 pub mod Sheets
 pub mod ByCell
+pub mod InParts

@@ -1,10 +1,11 @@
 -- What stands on a sheet.
-use Rattle.std.proofs.Common.{◌≡◌, ℕ, zero, suc, ◌+◌, ◌*◌, ◌-◌, ◌<◌, ◌≤◌, ℤ, List, [], ◌∷◌, ◌++◌, length, get_or, set, inl, inr, refl, sym, ap, subst, ◌∙◌, arith, get_or-set_same, get_or-set_other}
-use Rattle.std.specs.Prelude.{drop, map, slice_index, take}
+use Rattle.std.proofs.Common.{◌≡◌, ◌⊎◌, ℕ, zero, suc, ◌+◌, ◌*◌, ◌-◌, ◌<◌, ◌≤◌, ℤ, List, [], ◌∷◌, ◌++◌, length, get_or, set, inl, inr, refl, sym, ap, subst, ◌∙◌, arith, get_or-set_same, get_or-set_other}
+use Rattle.std.specs.Prelude.{drop, map, slice_index, take, Contains}
 use mathlib.Core.Logic.{dite}
 use native.Mathlib.Decide.{ℕ_discrete}
 use Rattle.std.proofs.lemmas.Bool.{cases_lt}
 use Rattle.std.proofs.lemmas.List.{append-nil, ext_get_or, get_or-drop, get_or-map, get_or-take, length-append, length-drop, length-map, length-take-le, take-append-drop, take_more}
+use Rattle.std.proofs.lemmas.List.Elements.{Contains-append_cases}
 use Rattle.std.proofs.lemmas.List.FromFn.{fill_by_all, get_or-range_with_len, length-range_with_len}
 use Rattle.std.proofs.lemmas.Grind.{flat_map-append}
 use Rattle.std.proofs.Math.Seq.{get_or-append_right}
@@ -79,6 +80,22 @@ cells_more rs k d less =
     let none = ap length (append-nil (run_cells r)) in
     let all : length (cells_of (take (k + 1) rs)) ≡ length (cells_of before ++ (run_cells r ++ [])) = ap (λ (xs : List CellRun). length (cells_of xs)) (take_more rs k d less) ∙ ap length (flat_map-append run_cells before (r ∷ [])) in
     omega (arith, all, long, own, none)
+
+-- a cell of a run or of one before it
+pub run_ends : (rs : List CellRun) (k : ℕ) (d : CellRun) → k < length rs → (n : ℕ) → Contains (cells_of (take (k + 1) rs)) n
+    → Contains (cells_of (take k rs)) n ⊎ (n < (get_or rs k d).first + (get_or rs k d).count)
+run_ends rs k d less n there =
+    let r = get_or rs k d in
+    let is : cells_of (take (k + 1) rs) ≡ cells_of (take k rs) ++ (run_cells r ++ []) = ap (λ (xs : List CellRun). cells_of xs) (take_more rs k d less) ∙ flat_map-append run_cells (take k rs) (r ∷ []) in
+    elim (Contains-append_cases (cells_of (take k rs)) (run_cells r ++ []) n (subst (λ (xs : List ℕ). Contains xs n) is there)) [
+      | inl before ↦ inl before
+      | inr here ↦
+          let place = place_of (run_cells r) n (subst (λ (xs : List ℕ). Contains xs n) (append-nil (run_cells r)) here) in
+          let low : place.0 < r.count = (let own = length-range_with_len r.first r.count in let lt = place.1 in omega (arith, own, lt)) in
+          let at = get_or-range_with_len r.first r.count place.0 0 low in
+          let is_n = place.2 in
+          inr (omega (arith, at, is_n, low))
+    ]
 
 -- the cells of a run and of those before it are no more than all
 pub run_within : (rs : List CellRun) (k : ℕ) (d : CellRun) → k < length rs → length (cells_of (take k rs)) + (get_or rs k d).count ≤ length (cells_of rs)

@@ -7,3 +7,4 @@ pub mod Seats
 pub mod Shown
 pub mod Sheets
 pub mod Kept
+pub mod Seen

@@ -71,9 +71,9 @@ pub(crate) fn pixel_of(planes: Planes, before: usize) -> (usize, usize)
     (pixel, colour)
 }
 
-// The place of the sample that shows a cell, told by how many cells of the planes come before it.
+/// The place of the sample that shows a cell, told by how many cells of the planes come before it.
 #[inline(always)]
-fn sample_place(planes: Planes, before: usize) -> usize
+pub(crate) fn sample_place(planes: Planes, before: usize) -> usize
     requires inside { before < in_planes planes }
     requires few { in_planes planes < 2 ^ 63 }
     ensures { result ≡ sample_place planes before }
@@ -82,16 +82,20 @@ fn sample_place(planes: Planes, before: usize) -> usize
     pixel * planes.colours + colour
 }
 
-/// The bits of a cell.
+/// The bits of a cell: 0 where its sample is not there.
 #[inline(always)]
 pub(crate) fn bits_of_cell(bits: &[u32], samples: &[u16], planes: Planes, cell: usize) -> u32
     requires inside { cell < length bits.now + in_planes planes }
-    requires fits { in_planes planes ≤ length samples.now }
+    requires few { in_planes planes < 2 ^ 63 }
     ensures { result ≡ slice_index (all_bits planes bits.now samples.now) cell }
 {
     if cell < bits.len() {
-        bits[cell]
+        return bits[cell];
+    }
+    let place = sample_place(planes, cell - bits.len());
+    if place < samples.len() {
+        u32::from(samples[place])
     } else {
-        u32::from(samples[sample_place(planes, cell - bits.len())])
+        0
     }
 }

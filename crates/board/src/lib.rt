@@ -6,6 +6,7 @@
 #![tactic(auto)]
 
 mod board;
+mod cells;
 mod kept;
 mod law;
 mod putting;
@@ -13,13 +14,15 @@ mod read_off;
 mod rows;
 mod seat;
 mod sheet;
+mod showing;
 mod shown;
 mod source;
 mod view;
 
 pub use board::{Board, SeatError, Unfinished};
+pub use cells::SheetCells;
 pub use law::{Law, Run};
 pub use seat::{BoardSeat, Ticket};
-pub use sheet::{Sheet, keep_bits};
+pub use sheet::{ApartSheet, Sheet, keep_bits};
 pub use source::{Planes, Source};
 pub use view::View;

@@ -1,14 +1,16 @@
 //! The cells of a run by one worker alone.
 
-ghost use Rattle.std.specs.Prelude.{◌≡◌, ℕ, ◌+◌, ◌^◌, ◌<◌, ◌≤◌, ◌++◌, [], drop, length, map, slice_index, take, vec_capacity, IfSome};
+ghost use Rattle.std.specs.Prelude.{◌≡◌, ℕ, ◌+◌, ◌^◌, ◌<◌, ◌≤◌, ◌++◌, [], length, map, vec_capacity};
 ghost use Rattle.board.specs.Kept.{all_bits, planes_of, Keeps};
 ghost use Rattle.board.specs.Layout.{picture_of, pieces_of, samples_in, value_at, IsSound, ShowsSamples};
+ghost use Rattle.board.specs.Seen.{beside, seen_bits, Seen};
 ghost use Rattle.board.specs.Sheets.{IsPut};
 ghost use Rattle.board.specs.Words.{bits_of};
 
-use crate::kept::{Kept, bits_of_cell, kept_as};
+use crate::cells::SheetCells;
+use crate::kept::{Kept, kept_as};
 use crate::law::Run;
-use crate::putting::{KeptBits, Numbers, PART, bits, follow_each_other, put_bits};
+use crate::putting::{KeptBits, Numbers, bits, put_bits};
 use crate::read_off::read_off;
 use crate::rows::Rows;
 use crate::shown::Shown;
@@ -48,7 +50,7 @@ impl<'a, J: Run> Model for Sheet<'a, J> {
 impl<'a, J: Run> Sheet<'a, J> {
     ghost use Rattle.meaning.specs.Image.View.{image_of};
     ghost use Rattle.board.specs.Layout.{own_of, picture_of, pieces_of, ShowsSamples};
-    ghost use Rattle.board.specs.Sheets.{bits_at, IsPut, IsPutCell};
+    ghost use Rattle.board.specs.Sheets.{bits_at, IsPut};
 
     /// A sheet on which nothing is put.
     ///
@@ -93,33 +95,40 @@ impl<'a, J: Run> Sheet<'a, J> {
         self.own.get(piece as usize).len()
     }
 
-    /// The bits of the value of a cell of a piece that is put.
-    #[inline(always)]
-    pub fn look(&self, cell: u32) -> u32
-        requires { IsPutCell J.layout J.values self.now cell }
-        ensures { result ≡ bits_of (value_at J.values cell) }
+    /// Its cells, as those who look at them share them.
+    pub fn cells(&self) -> SheetCells<'_, 'a, J>
+        ensures { seen_bits result ≡ self.now }
     {
-        let planes = self.kept.planes();
-        bits_of_cell(
-            self.bits.as_slice(),
-            self.samples.as_slice(),
-            planes,
-            cell as usize,
-        )
+        SheetCells {
+            bits: self.bits.as_slice(),
+            samples: self.samples.as_slice(),
+            planes: self.kept.planes(),
+            own: &self.own,
+            run: PhantomData,
+        }
     }
 
-    /// The bits of the values of cells of pieces that are put, where there are 1024 at most, which follow each other and are kept as
-    /// bits. Of others it tells nothing.
-    pub fn look_row(&self, cells: &[u32]) -> Option<&[u32]>
-        requires { (k : ℕ) → k < length cells.now → IsPutCell J.layout J.values self.now (slice_index cells.now k) }
-        ensures { IfSome result (λ bits. bits.now ≡ bits_at J.values cells.now) }
+    /// The sheet without the samples of the picture, and these.
+    pub fn apart(self) -> (ApartSheet<'a, J>, Vec<u16>)
+        ensures same { seen_bits (beside result.0 result.1.items) ≡ self.entry }
+        ensures all { length result.1.items ≡ samples_in J.layout }
     {
-        let count = cells.len();
-        if count == 0 || count > PART || !follow_each_other(cells, 0, count) {
-            return None;
-        }
-        let row = window(self.bits.as_slice(), cells[0] as usize, count)?;
-        Some(row)
+        let Sheet {
+            bits,
+            own,
+            kept,
+            shape,
+            samples,
+            run: _,
+        } = self;
+        let apart = ApartSheet {
+            bits,
+            own,
+            kept,
+            shape,
+            run: PhantomData,
+        };
+        (apart, samples)
     }
 
     /// Puts the values of all own cells of a piece. What is put stays.
@@ -183,20 +192,65 @@ impl<'a, J: Run> Sheet<'a, J> {
     }
 }
 
-// So many bits from a place on, if there are so many.
-fn window(bits: &[u32], first: usize, count: usize) -> Option<&[u32]>
-    ensures inside { IfSome result (λ _. first + count ≤ length bits.now) }
-    ensures same { IfSome result (λ row. row.now ≡ take count (drop first bits.now)) }
-{
-    if bits.len() < first {
-        return None;
+/// A sheet without the samples of the picture. Contracts see it as its cells, beside no samples.
+#[derive(Drop)]
+pub struct ApartSheet<'a, J: Run> {
+    bits: Vec<u32>,
+    own: Rows<'a>,
+    kept: Kept,
+    shape: Shape,
+    run: PhantomData<J>,
+}
+
+impl<'a, J: Run> Model for ApartSheet<'a, J> {
+    ghost use Rattle.std.specs.Prelude.{◌≡◌, [], length};
+    ghost use Rattle.meaning.specs.Image.View.{shape_of};
+    ghost use Rattle.board.specs.Kept.{planes_of, Keeps};
+    ghost use Rattle.board.specs.Layout.{IsSound, ShowsSamples};
+    ghost use Rattle.board.specs.Seen.{Seen};
+
+    ghost Value = { Seen };
+
+    ghost view = { λ s. record { planes = planes_of s.kept; bits = s.bits.items; samples = [] } };
+
+    ghost invariant = { λ s. (s.own ≡ J.layout.own) × IsSound J.layout × Keeps J.layout s.kept (length s.bits.items) × (shape_of s.shape ≡ J.layout.frame) × ShowsSamples J.layout J.values };
+}
+
+impl<'a, J: Run> ApartSheet<'a, J> {
+    /// Its cells beside these samples, as those who look at them share them.
+    pub fn cells<'s>(&'s self, samples: &'s [u16]) -> SheetCells<'s, 'a, J>
+        ensures { result ≡ beside self.now samples.now }
+    {
+        SheetCells {
+            bits: self.bits.as_slice(),
+            samples,
+            planes: self.kept.planes(),
+            own: &self.own,
+            run: PhantomData,
+        }
     }
-    let (_, later) = bits.split_at(first);
-    if later.len() < count {
-        return None;
+
+    /// The sheet with these samples of the picture.
+    pub fn joined(self, samples: Vec<u16>) -> Sheet<'a, J>
+        requires { length samples.items ≡ samples_in J.layout }
+        ensures { result ≡ seen_bits (beside self.entry samples.items) }
+    {
+        let ApartSheet {
+            bits,
+            own,
+            kept,
+            shape,
+            run: _,
+        } = self;
+        Sheet {
+            bits,
+            own,
+            kept,
+            shape,
+            samples,
+            run: PhantomData,
+        }
     }
-    let (row, _) = later.split_at(count);
-    Some(row)
 }
 
 // Makes the samples those of the picture, once all cells have the bits of their values.

@@ -20,6 +20,7 @@ use Rattle.lower.specs.Regions.{LaidText}
 use Rattle.lower.specs.Fetches.{Entry}
 use Rattle.lower.specs.Groups.{is_same, rooted_if, rooted, IsGroupOf, AreGroupsOf, root_functions, HasGroups}
 use Rattle.lower.proofs.Laying.{same}
+use Rattle.completeness.proofs.LoopedAsked.{all_regions}
 use Rattle.completeness.specs.Looped.{IsRegion, IsRegionIf, AreRegions}
 use Rattle.completeness.specs.Inside.{AllGroupLinesAreKnown}
 use Rattle.completeness.proofs.Laid.{subjects, found}
@@ -138,4 +139,4 @@ module _ (a : Algorithm) (sch : Schedule) (l : Lowered) (well : IsAlgorithm a) (
       unknown_none b.number x.0 x.1 (subst (GroupNamesUnknown a (plan_of l.plan) b.number) x.2 b.so)
 
 pub known : AllGroupLinesAreKnown
-known a s l well legal groups within line b = none_begins a s l well groups within line b
+known a s l well legal groups line b = none_begins a s l well groups (all_regions a s l groups) line b

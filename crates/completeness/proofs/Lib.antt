@@ -51,6 +51,7 @@ pub mod FetchLines
 pub mod Origins
 pub mod AllocLines
 pub mod Shared
+pub mod LoopedAsked
 pub mod LoopedOwned
 pub mod LoopedShares
 pub mod LoopedWalk

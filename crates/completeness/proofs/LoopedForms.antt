@@ -53,6 +53,7 @@ use Rattle.completeness.proofs.Unlike.{Clear, ClearAll, none_inside, joined_clea
 use Rattle.completeness.proofs.Scoped.{any_none}
 use Rattle.completeness.proofs.LimitedLines.{P, not_wide, none_wide, span_not_wide, region_not_wide, steps_clear, fetches_clear}
 use Rattle.completeness.proofs.LimitedLines.{nests_clear as plain_clear}
+use Rattle.completeness.proofs.LoopedAsked.{all_regions}
 use Rattle.completeness.proofs.LoopedOwned.{IsRooted, rooted_at, laid_by, skeleton_at, group_at}
 use Rattle.completeness.proofs.LoopedWalk.{NestIs, InnerIs, group_clear}
 use Rattle.completeness.proofs.LoopedLimited.{StepFits}
@@ -274,7 +275,7 @@ module _ (a : Algorithm) (s : Schedule) (l : Lowered) (well : IsAlgorithm a) (le
       none_inside P line (statement_of x.0.body) clear (begun (group_of x.0)) stands
 
 pub nests_within : NestLinesAreWithin
-nests_within a s l well legal groups within line h = none_at a s l well legal groups within line h
+nests_within a s l well legal groups line h = none_at a s l well legal groups (all_regions a s l groups) line h
 
 pub groups_within : GroupLinesAreWithin
-groups_within a s l well legal groups within line h = begins_clear a s l well legal groups within line h
+groups_within a s l well legal groups line h = begins_clear a s l well legal groups (all_regions a s l groups) line h

@@ -24,6 +24,7 @@ use Rattle.lower.proofs.Grids.{head_of}
 use Rattle.completeness.specs.Parted.{PartsGroup, IsPartedGroup, ArePartedGroups, KeepsInner}
 use Rattle.completeness.specs.Looped.{IsRegion, IsRegionIf, AreRegions, RootInnersAreKept, CellsAreParted}
 use Rattle.completeness.proofs.Laid.{arranged}
+use Rattle.completeness.proofs.LoopedAsked.{all_regions}
 use Rattle.completeness.proofs.Owned.{own_found, parts}
 use Rattle.completeness.proofs.Listed.{parted_cells}
 use Rattle.completeness.proofs.Unscattered.{none_scattered}
@@ -163,4 +164,4 @@ module _ (a : Algorithm) (s : Schedule) (l : Lowered) (well : IsAlgorithm a) (le
         subst (IsPartedGroup (certificate_of l.certificate) n) (sym x.2) (record { region = w.own.region; told = told; parts = subst (PartsGroup (group_of x.0)) (sym w.owned) parted })
 
 pub cells_parted : CellsAreParted
-cells_parted a s l well legal groups within inner = parted_cells _ _ (parted a s l well legal groups within inner)
+cells_parted a s l well legal groups inner = parted_cells _ _ (parted a s l well legal groups (all_regions a s l groups) inner)

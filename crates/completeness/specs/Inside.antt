@@ -15,9 +15,7 @@ use Rattle.validation.specs.Groups.Inside.{Begins, StandsIn}
 use Rattle.validation.specs.Groups.Wrong.{GroupNamesUnknown, IsNotDefinitionAt}
 use Rattle.validation.specs.Stored.Definitions.{is_stored}
 use Rattle.lower.specs.declared.lowering.Lowered.{Lowered}
-use Rattle.lower.specs.Stored.{stored_functions}
 use Rattle.lower.specs.Groups.{AreGroupsMade}
-use Rattle.completeness.specs.Looped.{AreRegions}
 use Rattle.completeness.specs.Laws.{NamesNoLoad, IsUnknownInside, AreLinesTold, IsPublish}
 
 -- of the plan that is made of whatever schedule
@@ -77,9 +75,7 @@ IsFirst _ = ⊥
 abbrev pub ChoiceLinesAreKnown : Type 0
 ChoiceLinesAreKnown = OfEachSchedule (λ a s p c. (line : ℕ) → ¬ IsUnknownInside IsFirst a p c line)
 
--- nor does a line `group`, where each region has some numbers for each of its function's variables: each is of a function of its own, with a span of numbers for each variable
--- (no K2)
+-- nor does a line `group`: each is of a function of its own, with a span of numbers for each variable (no K2)
 abbrev pub AllGroupLinesAreKnown : Type 0
 AllGroupLinesAreKnown =
-    (a : Algorithm) (s : Schedule) (l : Lowered) → IsAlgorithm a → IsLegal a s → (groups : AreGroupsMade a s l) → AreRegions (stored_functions a s) groups.placed.regions → (line : ℕ)
-    → ¬ Begins (plan_of l.plan) (GroupNamesUnknown a (plan_of l.plan)) line
+    (a : Algorithm) (s : Schedule) (l : Lowered) → IsAlgorithm a → IsLegal a s → AreGroupsMade a s l → (line : ℕ) → ¬ Begins (plan_of l.plan) (GroupNamesUnknown a (plan_of l.plan)) line

@@ -41,10 +41,10 @@ AreRegions (g ∷ gs) (l ∷ ls) = IsRegionIf g l × AreRegions gs ls
 abbrev pub RootInnersAreKept : Algorithm → Schedule → Type 0
 RootInnersAreKept a s = AllByRecursion (λ g. g.subject.is_root ≡ true → KeepsInner g.placed.loops g.placed.cuts) (stored_functions a s)
 
--- the pieces of the plan that is made of whatever schedule part its cells, where its groups are over such regions
+-- the pieces of the plan that is made of whatever schedule part its cells
 abbrev pub CellsAreParted : Type 0
 CellsAreParted =
-    (a : Algorithm) (s : Schedule) (l : Lowered) → IsAlgorithm a → IsLegal a s → (groups : AreGroupsMade a s l) → AreRegions (stored_functions a s) groups.placed.regions → RootInnersAreKept a s
+    (a : Algorithm) (s : Schedule) (l : Lowered) → IsAlgorithm a → IsLegal a s → AreGroupsMade a s l → RootInnersAreKept a s
     → ArePartedCells (plan_of l.plan) (certificate_of l.certificate)
 
 -- where they do, what is told of the pieces' shares is of what they fetch, or a limit: neither K9 nor K10
@@ -53,14 +53,14 @@ FetchesAndLimitsAreTold = (a : Algorithm) (p : Plan) (c : Certificate) (f : Flaw
 
 -- ---- forms
 
--- no form of a line `group` is out of the limits of forms (K3), where the groups are over regions of numbers of 32 bits
+-- no form of a line `group` is out of the limits of forms (K3)
 abbrev pub GroupLinesAreWithin : Type 0
 GroupLinesAreWithin =
-    (a : Algorithm) (s : Schedule) (l : Lowered) → IsAlgorithm a → IsLegal a s → (groups : AreGroupsMade a s l) → AreRegions (stored_functions a s) groups.placed.regions → (line : ℕ)
+    (a : Algorithm) (s : Schedule) (l : Lowered) → IsAlgorithm a → IsLegal a s → AreGroupsMade a s l → (line : ℕ)
     → ¬ Begins (plan_of l.plan) (λ n g. RegionIsWide g.region) line
 
 -- nor is one of a loop, a let, a guard or a store
 abbrev pub NestLinesAreWithin : Type 0
 NestLinesAreWithin =
-    (a : Algorithm) (s : Schedule) (l : Lowered) → IsAlgorithm a → IsLegal a s → (groups : AreGroupsMade a s l) → AreRegions (stored_functions a s) groups.placed.regions → (line : ℕ)
+    (a : Algorithm) (s : Schedule) (l : Lowered) → IsAlgorithm a → IsLegal a s → AreGroupsMade a s l → (line : ℕ)
     → ¬ IsWideInside IsNestLine (plan_of l.plan) line

@@ -31,8 +31,7 @@ pub fn choice_lines_are_known()
     ensures { ChoiceLinesAreKnown }
 {}
 
-/// Nor does a line `group` of it (no K2), where each region has some numbers for each of its function's variables: each is of a function of its own, with a span of
-/// numbers for each of that's variables.
+/// Nor does a line `group` of it (no K2): each is of a function of its own, with a span of numbers for each of that's variables.
 pub fn group_lines_are_known()
     ensures { AllGroupLinesAreKnown }
 {}

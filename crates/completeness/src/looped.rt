@@ -4,7 +4,7 @@ ghost use Rattle.completeness.specs.Looped.{CellsAreParted, FetchesAndLimitsAreT
 
 /// Of whatever schedule a plan is made, also where functions are computed inside loops, stored there and folded: what its pieces own are points of their groups'
 /// regions, each cell is one piece's own, and stands once in what that owns. It is asked that no split of a root function makes an inner loop that is parallel or
-/// split again, and that the groups are over regions with some numbers of 32 bits for each variable of their functions.
+/// split again.
 pub fn cells_are_parted()
     ensures { CellsAreParted }
 {}

@@ -11,7 +11,7 @@ pub mod Private
 pub mod Learnt
 pub mod InOrder
 pub mod Looking
-pub mod Hands
+pub mod Staged
 pub mod Most
 pub mod Shared
 pub mod Runs

@@ -37,9 +37,8 @@ use Rattle.piece.specs.contracts.cells.LookedCells as LookedCells
 use Rattle.board.proofs.seat.BoardSeat.TheSendSync as seat
 use Rattle.crew.specs.contracts.values.Desk as Desk
 use Rattle.crew.specs.contracts.workers.Worker as Worker
-use Rattle.crew.specs.contracts.stages.Hand as Hand
 use Rattle.crew.specs.contracts.workers.work_all.{P-row}
-use Rattle.crew.specs.contracts.stages.work_stage.{P-row as P-row-in_stages}
+use Rattle.crew.specs.contracts.stages.with_next.{P-row as P-row-in_stages}
 
 expr_field_sync : IsSync (Expr.the_field).row
 expr_field_sync = search (
@@ -114,9 +113,6 @@ desk_field_send κ = search (sendable, crosses, scratch.the_field_send, looked_f
 
 pub worker_send : (κ : NamedLft) → IsSend (Worker.the_row κ)
 worker_send κ = search (sendable, crosses, seat.the_send, desk_field_send) depth 40 fits 100000
-
-pub hand_send : (κ : NamedLft) → IsSend (Hand.the_row κ)
-hand_send κ = search (sendable, crosses, desk_field_send) depth 40 fits 100000
 
 -- as a value of a type parameter
 pub as_parameter : (a b c d : RattleType) → IsSync b → IsSync (P-row a b c d)

@@ -3,6 +3,7 @@
 ghost use Rattle.std.specs.Prelude.{◌≡◌, ◌<◌, ◌≤◌, ◌+◌, ◌++◌, ℕ, length, map, Contains, IfOk, slice_index, vec_capacity};
 ghost use Rattle.algo.specs.View.{picture_said, samples_of, IsFor};
 ghost use Rattle.board.specs.Layout.{own_of, pieces_of, value_at};
+ghost use Rattle.board.specs.Seen.{seen_bits};
 ghost use Rattle.board.specs.Sheets.{IsPut, IsPutCell};
 ghost use Rattle.checked_plan.specs.View.{algorithm_checked};
 ghost use Rattle.crew.specs.Crews.{ArePieces, IsDeskFor};
@@ -15,7 +16,7 @@ use crate::opening::laws::pictures_are_said;
 use crate::opening::open_alone;
 use crate::values::{Desk, Pieces, PrivateRuns};
 use algo::Inputs;
-use board::{Run, Sheet};
+use board::{Run, Sheet, SheetCells};
 use checked_plan::Checked;
 use checked_plan::output::PlanCells;
 use meaning::image::Image;
@@ -27,36 +28,41 @@ use std::marker::{Brand, Model};
 const PART: usize = 1024;
 
 /// Looks at cells, each of which is put, one by one, and adds their bits. It takes no memory.
-fn look_at_each<J: Run>(sheet: &Sheet<'_, J>, looked: &mut LookedCells<'_>, cells: &[u32])
-    requires put { (k : ℕ) → k < length cells.now → IsPutCell J.layout J.values sheet.now (slice_index cells.now k) }
+fn look_at_each<J: Run>(seen: &SheetCells<'_, '_, J>, looked: &mut LookedCells<'_>, cells: &[u32])
+    requires put { (k : ℕ) → k < length cells.now → IsPutCell J.layout J.values (seen_bits seen.now) (slice_index cells.now k) }
     requires room { length looked.old.looked.items + length cells.now ≤ vec_capacity looked.old.looked }
     ensures same { (looked.new.cells.now ≡ looked.old.cells.now) × (looked.new.piece ≡ looked.old.piece) }
     ensures words { looked.new.looked.items ≡ looked.old.looked.items ++ words_at J.values cells.now }
     ensures room { vec_capacity looked.new.looked ≡ vec_capacity looked.old.looked }
 {
     for cell in cells {
-        looked.push(i64::from(sheet.look(*cell)));
+        looked.push(i64::from(seen.look(*cell)));
     }
 }
 
 /// Looks at cells, each of which is put, together where they follow each other, and adds their bits. It takes no memory.
-fn look_at_part<J: Run>(sheet: &Sheet<'_, J>, looked: &mut LookedCells<'_>, cells: &[u32])
-    requires put { (k : ℕ) → k < length cells.now → IsPutCell J.layout J.values sheet.now (slice_index cells.now k) }
+fn look_at_part<J: Run>(seen: &SheetCells<'_, '_, J>, looked: &mut LookedCells<'_>, cells: &[u32])
+    requires put { (k : ℕ) → k < length cells.now → IsPutCell J.layout J.values (seen_bits seen.now) (slice_index cells.now k) }
     requires room { length looked.old.looked.items + length cells.now ≤ vec_capacity looked.old.looked }
     ensures same { (looked.new.cells.now ≡ looked.old.cells.now) × (looked.new.piece ≡ looked.old.piece) }
     ensures words { looked.new.looked.items ≡ looked.old.looked.items ++ words_at J.values cells.now }
     ensures room { vec_capacity looked.new.looked ≡ vec_capacity looked.old.looked }
 {
-    match sheet.look_row(cells) {
+    match seen.look_row(cells) {
         Some(bits) => looked.push_all(bits),
-        None => look_at_each(sheet, looked, cells),
+        None => look_at_each(seen, looked, cells),
     }
 }
 
 /// Looks at the cells that a piece fetches, each of which is put, and leaves their bits in the order of its list. It takes no
 /// memory.
-fn look_at<J: Run>(sheet: &Sheet<'_, J>, looked: &mut LookedCells<'_>, piece: u32, cells: &[u32])
-    requires put { (k : ℕ) → k < length cells.now → IsPutCell J.layout J.values sheet.now (slice_index cells.now k) }
+fn look_at<J: Run>(
+    seen: &SheetCells<'_, '_, J>,
+    looked: &mut LookedCells<'_>,
+    piece: u32,
+    cells: &[u32],
+)
+    requires put { (k : ℕ) → k < length cells.now → IsPutCell J.layout J.values (seen_bits seen.now) (slice_index cells.now k) }
     requires room { length cells.now ≤ vec_capacity looked.old.looked }
     ensures same { looked.new.cells.now ≡ looked.old.cells.now }
     ensures piece { looked.new.piece ≡ piece }
@@ -67,7 +73,7 @@ fn look_at<J: Run>(sheet: &Sheet<'_, J>, looked: &mut LookedCells<'_>, piece: u3
     let mut rest = cells;
     while !rest.is_empty() {
         let (part, later) = rest.split_at(PART.min(rest.len()));
-        look_at_part(sheet, looked, part);
+        look_at_part(seen, looked, part);
         rest = later;
     }
 }
@@ -76,7 +82,7 @@ fn look_at<J: Run>(sheet: &Sheet<'_, J>, looked: &mut LookedCells<'_>, piece: u3
 /// numbers then. It takes no memory.
 pub(crate) fn compute<J: Run, P: PrivateRuns<J>>(
     alloc: Global,
-    sheet: &Sheet<'_, J>,
+    seen: &SheetCells<'_, '_, J>,
     runs: &P,
     desk: &mut Desk<'_>,
     piece: u32,
@@ -85,12 +91,12 @@ pub(crate) fn compute<J: Run, P: PrivateRuns<J>>(
     requires scratch { P.suffices runs.now desk.old.scratch }
     requires room { HasRoom (P.plan runs.now) (pieces_of J.layout) desk.old.looked }
     requires piece { piece < pieces_of J.layout }
-    requires needed { (j : ℕ) → Contains (needs_of (P.plan runs.now) piece) j → (j < pieces_of J.layout) × IsPut J.layout J.values sheet.now j }
+    requires needed { (j : ℕ) → Contains (needs_of (P.plan runs.now) piece) j → (j < pieces_of J.layout) × IsPut J.layout J.values (seen_bits seen.now) j }
     ensures values { desk.new.scratch.state.given.items ≡ map (value_at J.values) (own_of J.layout piece) }
     ensures scratch { P.suffices runs.now desk.new.scratch }
     ensures room { HasRoom (P.plan runs.now) (pieces_of J.layout) desk.new.looked }
 {
-    look_at(sheet, &mut desk.looked, piece, runs.fetched(piece));
+    look_at(seen, &mut desk.looked, piece, runs.fetched(piece));
     runs.run(alloc, desk, piece);
 }
 
@@ -112,7 +118,8 @@ fn fill<J: Run, P: PrivateRuns<J>>(
     ensures scratch { P.suffices runs.now desk.new.scratch }
     ensures room { HasRoom (P.plan runs.now) (pieces_of J.layout) desk.new.looked }
 {
-    compute(alloc, sheet, runs, desk, piece);
+    let seen = sheet.cells();
+    compute(alloc, &seen, runs, desk, piece);
     sheet.put(piece, desk.given());
 }
 

@@ -15,8 +15,8 @@ use crate::counts::most_fetched;
 use crate::gate::Gate;
 use crate::opening::laws::{layouts_are_sound, own_is_of_work, pictures_are_said};
 use crate::opening::{open, open_alone};
-use crate::stages::{Hand, fill_in_stages, stage_count, take_on};
-use crate::values::Pieces;
+use crate::stages::{desks_for, filled_in_stages, lists_for, stage_count};
+use crate::values::{Desk, Pieces};
 use crate::workers::{Worker, hire, united, work_all};
 use algo::Inputs;
 use board::{Board, BoardSeat, Run, Sheet};
@@ -36,10 +36,11 @@ pub(crate) enum Way<'a, J: Run> {
         board: Board<'a, J>,
         workers: Vec<Worker<'a>>,
     },
-    /// Each has its own of each stage. They read the cells of the stages before on a sheet.
+    /// Each has some of each stage. They read the cells of the stages before on a sheet. Each has a desk, and each piece a list.
     InStages {
         sheet: Sheet<'a, J>,
-        hands: Vec<Hand<'a>>,
+        desks: Vec<Desk<'a>>,
+        lists: Vec<Vec<u32>>,
     },
 }
 
@@ -103,15 +104,24 @@ fn picture_at_board<J: Run + Send + Sync, R: Threads + Wait + Sync, G: Gate>(
 fn picture_in_stages<J: Run + Send + Sync, R: Threads + Wait + Sync, G: Gate>(
     rt: &R,
     alloc: Global,
-    mut sheet: Sheet<'_, J>,
+    sheet: Sheet<'_, J>,
     pieces: &Pieces<'_>,
-    mut hands: Vec<Hand<'_>>,
+    mut desks: Vec<Desk<'_>>,
+    mut lists: Vec<Vec<u32>>,
     gate: &G,
 ) -> Image
-    requires { IsPreparedInStages J.layout J.values pieces.now hands.items }
+    requires { IsPreparedInStages J.layout J.values pieces.now desks.items lists.items }
     ensures { image_of result ≡ said_of pieces.now }
 {
-    fill_in_stages(rt, alloc, &mut sheet, pieces, hands.as_mut_slice(), gate);
+    let sheet = filled_in_stages(
+        rt,
+        alloc,
+        sheet,
+        pieces,
+        desks.as_mut_slice(),
+        lists.as_mut_slice(),
+        gate,
+    );
     sheet.close()
 }
 
@@ -173,8 +183,13 @@ fn in_stages<'a, J: Run>(
 {
     let sheet = open_alone::<J>(alloc, pieces.checked, inputs)?;
     let count = workers.min(sheet.pieces()).max(1);
-    let hands = take_on::<J, Pieces<'_>>(alloc, &sheet, pieces, cells, most, count)?;
-    Ok(Way::InStages { sheet, hands })
+    let desks = desks_for::<J, Pieces<'_>>(alloc, pieces, cells, most, count)?;
+    let lists = lists_for(alloc, &sheet)?;
+    Ok(Way::InStages {
+        sheet,
+        desks,
+        lists,
+    })
 }
 
 impl<'a, J: Run> Prepared<'a, J> {
@@ -225,9 +240,11 @@ impl<J: Run + Send + Sync> Prepared<'_, J> {
             Way::AtBoard { board, workers } => {
                 picture_at_board(rt, alloc, board, &pieces, workers, gate)
             }
-            Way::InStages { sheet, hands } => {
-                picture_in_stages(rt, alloc, sheet, &pieces, hands, gate)
-            }
+            Way::InStages {
+                sheet,
+                desks,
+                lists,
+            } => picture_in_stages(rt, alloc, sheet, &pieces, desks, lists, gate),
         }
     }
 }

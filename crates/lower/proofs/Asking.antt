@@ -1,5 +1,5 @@
 -- The regions for which all turns ask, as they are asked for once more.
-use Rattle.std.proofs.Common.{◌≡◌, ℕ, zero, suc, ◌+◌, Bool, true, false, ◌&&◌, ◌||◌, List, [], ◌∷◌, length, map, Option, Some, None, Result, Ok, Err, refl, sym, ap, subst, ◌∙◌, inl, inr, add-one}
+use Rattle.std.proofs.Common.{◌≡◌, ℕ, suc, ◌+◌, Bool, true, false, ◌&&◌, ◌||◌, List, [], ◌∷◌, length, map, Option, Some, None, Result, Ok, Err, refl, sym, ap, subst, ◌∙◌, inl, inr, add-one}
 use Rattle.std.specs.Prelude.{if◌then◌else◌, IfOk}
 use Rattle.std.specs.List.{list_any}
 use Rattle.std.specs.Option.{option_map}
@@ -16,7 +16,6 @@ use Rattle.lower.specs.declared.error.LowerError.TheVariants as error
 use Rattle.lower.specs.declared.inner.Inner.{Inner}
 use Rattle.lower.specs.declared.lowering.Lowered.{Lowered}
 use Rattle.lower.specs.declared.parties.Party.{Party}
-use Rattle.lower.specs.declared.regions.Ends.{Ends}
 use Rattle.lower.specs.declared.regions.Laid.{Laid}
 use Rattle.lower.specs.Stored.{FormulaText, StoredText, formula_of, stored_of}
 use Rattle.lower.specs.Regions.{LaidText, laid_of, laid_over, laid_functions}
@@ -27,7 +26,7 @@ use Rattle.lower.specs.Placed.{PlacedText}
 use Rattle.lower.specs.Asked.{reach_in, laid_again, laid_anew, laid_each, are_same, unless_same, unless}
 use Rattle.lower.specs.Homes.{AreAllAtHome}
 use Rattle.lower.specs.Computed.{AreAllFound}
-use Rattle.lower.specs.Groups.{IsOverRegion, AreOverRegions, AreInside, AreAllFoundIf, Round, Come, all_rooted, all_known, rounds, asked, rooted, is_missing, inside_of, inside_at, placed_in, party_of, placed_of, IsKnown, AreKnown, AreFoundOf, HasGroupsFrom, IsKeptPlan}
+use Rattle.lower.specs.Groups.{IsOverRegion, AreOverRegions, AreAllFoundIf, Round, Come, all_rooted, all_known, rounds, asked, rooted, is_missing, inside_of, inside_at, placed_in, party_of, placed_of, IsKnown, AreKnown, AreFoundOf, HasGroupsFrom, IsKeptPlan}
 use Rattle.lower.specs.Refused.{Answers, AnswersBy, AnswersFrom, IsFirstOver, IsFirstFrom}
 use Rattle.lower.proofs.First.{formulas_at, no_formulas}
 use Rattle.lower.proofs.Grouped.{all_found, all_inside, placed_all}

@@ -1,5 +1,5 @@
 -- The first function that breaks a rule, as it is found one function after another.
-use Rattle.std.proofs.Common.{◌≡◌, ℕ, zero, suc, ◌+◌, ◌-◌, ◌<◌, Bool, true, false, ◌&&◌, List, [], ◌∷◌, length, map, take, drop, arith, Option, Some, None, Result, Ok, Err, refl, sym, ap, subst, ◌∙◌, add-one}
+use Rattle.std.proofs.Common.{◌≡◌, ℕ, zero, suc, ◌+◌, ◌-◌, ◌<◌, Bool, true, false, List, [], ◌∷◌, length, map, take, drop, arith, Option, Some, None, Result, refl, sym, ap, subst, ◌∙◌, add-one}
 use Rattle.std.specs.Prelude.{if◌then◌else◌, IfOk, get_or}
 use Rattle.std.specs.Global.{Vec}
 use Rattle.std.proofs.lemmas.Result.{IfOk-weaker}

@@ -1,20 +1,17 @@
 -- The first function that breaks a rule by its region, where each is a whole function.
-use Rattle.std.proofs.Common.{◌≡◌, ℕ, zero, suc, ◌+◌, ◌-◌, ◌<◌, Bool, true, false, ◌&&◌, List, [], ◌∷◌, length, map, take, drop, arith, Option, Some, None, Result, Ok, Err, refl, sym, ap, subst, ◌∙◌, inl, add-one}
-use Rattle.std.specs.Prelude.{IfOk, get_or}
+use Rattle.std.proofs.Common.{◌≡◌, ℕ, zero, suc, ◌-◌, ◌<◌, Bool, true, List, [], ◌∷◌, length, map, take, drop, arith, Option, Some, None, sym, ap, ◌∙◌, inl}
+use Rattle.std.specs.Prelude.{get_or}
 use Rattle.std.specs.Option.{option_map}
 use Rattle.std.specs.Global.{Vec}
-use Rattle.std.proofs.lemmas.Bool.{false≢true}
 use Rattle.std.proofs.Math.Seq.{take-length}
-use Rattle.std.proofs.lemmas.Result.{IfOk-weaker}
 use Rattle.meaning.specs.Algorithm.{Algorithm}
 use Rattle.sched.specs.declared.region_rule.RegionRule.{RegionRule}
-use Rattle.sched.specs.declared.region_rule.RegionRule.TheVariants.{TooLarge}
 use Rattle.lower.specs.declared.legality.Totals.{Totals}
 use Rattle.lower.specs.declared.definitions.Formula.{Formula}
 use Rattle.lower.specs.declared.definitions.Stored.{Stored}
-use Rattle.lower.specs.Stored.{FormulaText, StoredText, has_large, formula_of, stored_of}
+use Rattle.lower.specs.Stored.{StoredText, has_large, formula_of, stored_of}
 use Rattle.lower.specs.Regions.{LaidText, laid_functions}
-use Rattle.lower.specs.Faults.{is_homeless, is_whole, are_whole, or_later, fault_by_region, fault_by, fault_of, totals_by, totals_with, first_laid, other_laid, fault_from, no_totals, IsFirstOf, region_fault}
+use Rattle.lower.specs.Faults.{are_whole, or_later, fault_of, totals_by, totals_with, first_laid, other_laid, fault_from, no_totals, IsFirstOf, region_fault}
 use Rattle.lower.specs.Refused.{IsFirst}
 
 abbrev pub Fault : Type 0

@@ -1,16 +1,14 @@
 -- The loops of a region that was found are those of the skeleton over it.
-use Rattle.std.proofs.Common.{◌≡◌, ℕ, zero, suc, Bool, true, false, List, [], ◌∷◌, map, Option, Some, None, refl, sym, ap, subst, ◌∙◌}
+use Rattle.std.proofs.Common.{◌≡◌, ℕ, zero, suc, Bool, true, false, List, [], ◌∷◌, Option, Some, None, refl, sym, ap, subst, ◌∙◌}
 use Rattle.std.specs.Prelude.{if◌then◌else◌}
 use Rattle.meaning.specs.Algorithm.{Algorithm}
 use Rattle.sched.specs.declared.numbers.Extent.{Extent}
 use Rattle.sched.specs.Skeleton.{SkeletonText}
 use Rattle.sched.specs.Standing.{◌>>=◌}
-use Rattle.std.specs.Option.{option_map}
 use Rattle.lower.specs.declared.regions.Ends.{Ends}
-use Rattle.lower.specs.declared.regions.Laid.{Laid}
 use Rattle.lower.specs.Stored.{FormulaText, StoredText}
 use Rattle.lower.specs.Around.{head_scope}
-use Rattle.lower.specs.Regions.{LaidText, laid_of, add_all_own, region_of, same_region, skeleton_of, over, closed, reach_of, laid_over, laid_by, laid_within, laid_functions}
+use Rattle.lower.specs.Regions.{LaidText, add_all_own, region_of, same_region, skeleton_of, over, closed, reach_of, laid_over, laid_by, laid_within, laid_functions}
 use Rattle.lower.specs.Groups.{IsOverRegion, AreOverRegions}
 
 abbrev pub IsLaidOver : StoredText → List FormulaText → LaidText → Type 0

@@ -11,7 +11,7 @@ use Rattle.sched.specs.declared.error.Rule.{Rule}
 use Rattle.sched.specs.declared.schedule.Split.{Split}
 use Rattle.sched.specs.declared.numbers.Numbers.{Numbers}
 use Rattle.sched.specs.declared.region_rule.RegionRule.{RegionRule}
-use Rattle.sched.specs.declared.region_rule.RegionRule.TheVariants.{OutsideUse, ShortShift, SmallFold, TooLarge, TooMuch, Unbounded}
+use Rattle.sched.specs.declared.region_rule.RegionRule.TheVariants.{OutsideUse, ShortShift, SmallFold, TooLarge, Unbounded}
 use Rattle.sched.specs.Numbers.{loop_numbers, numbers_named}
 use Rattle.sched.specs.Placing.{is_shifted}
 use Rattle.sched.specs.RegionRules.{region_number}

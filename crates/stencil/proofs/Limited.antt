@@ -1,22 +1,30 @@
 -- Why the text of a plan is refused of which the checker tells limits alone.
-use Rattle.std.proofs.Common.{◌≡◌, ℕ, refl, sym, inl, inr, List, subst}
+use Rattle.std.proofs.Common.{◌≡◌, ◌∙◌, ℕ, refl, sym, inl, inr, List, subst}
 use Rattle.meaning.specs.Algorithm.{Algorithm}
+use Rattle.sched.specs.Schedule.{Schedule}
 use Rattle.soundness.specs.declared.outline.refusals.code.K.{K}
 use Rattle.soundness.specs.declared.outline.refusals.code.K.TheVariants.{K1, K2, K3, K4, K5, K6, K7, K8, K9, K10, K11, K12, K13, K14}
 use Rattle.soundness.specs.Outline.Refusals.Codes.{number_of}
 use Rattle.plan.specs.Plan.{Plan}
 use Rattle.plan.specs.View.{plan_of}
+use Rattle.plan.specs.declared.plan.Plan.{Plan as PlanMade}
+use Rattle.plan.specs.declared.certificate.cert.Cert.{Cert}
 use Rattle.plan.specs.Certificate.Certificate.{Certificate, certificate_of}
 use Rattle.spelling.specs.declared.lines.error.TextError.TheVariants as read
 use Rattle.cert.specs.File.File.{IsFileOf, IsRefusedFile}
 use Rattle.lower.specs.declared.lowering.Lowered.{Lowered}
-use Rattle.completeness.specs.Told.{TellsLimitsAlone}
+use Rattle.completeness.specs.Fitting.{SplitsOnce}
+use Rattle.completeness.specs.Told.{SplitsPlainly, TellsLimitsAlone}
 use Rattle.completeness.specs.OfPlans.{file_text, IsFileOfPlan, AreStoresSmall}
 use Rattle.commands.specs.declared.pipeline.fault.Fault.{Fault}
 use Rattle.commands.specs.declared.pipeline.fault.Fault.TheVariants.{Memory, Algo, Schedule as NoSchedule, Rule, Names, Plan as Refused, Form, Limit}
 use Rattle.commands.specs.declared.pipeline.fault.Fault.TheVariants.{Order, Image, Budget, Unfinished, Outside, Uncut, Difference}
-use Rattle.commands.specs.Pipeline.PlanFiles.{IsWrong}
-use Rattle.stencil.specs.Compiling.{IsLimit, IsUnaccepted, IsUnread}
+use Rattle.commands.specs.Pipeline.PlanFiles.{IsAccepted, IsWrong}
+use Rattle.stencil.specs.Compiling.{IsCompiledPlan, IsLimit, IsNotCompiled, IsPlanText, IsRefusedPlan, IsUnaccepted, IsUnread, IsUnwritten}
+
+-- loops that are split plainly are split once at most
+splits_once : (a : Algorithm) (s : Schedule) → SplitsPlainly a s → SplitsOnce a s
+splits_once a s plainly = record { whole = plainly.whole; once = plainly.once }
 
 code_of : (code : K) → number_of code ≡ 14 → code ≡ K14
 code_of K1 is = absurd cc
@@ -84,3 +92,31 @@ module _ (text : List ℕ) (made : Lowered) where
       is_limit Outside h = absurd h
       is_limit (Uncut name) h = absurd h
       is_limit Difference h = absurd h
+
+module _ (a : Algorithm) (s : Schedule) where
+  -- where there is no text of a plan, there is no plan file
+  pub unwritten : (fault : Fault) → IsUnwritten a s fault → IsNotCompiled a s fault
+  unwritten fault (inl memory) = inl memory
+  unwritten fault (inr refused) = inr (inl refused)
+
+  -- a text is that of the plan where it is read of the file of that plan
+  pub text_of_plan : (text file : List ℕ) → text ≡ file → IsPlanText a s file → IsPlanText a s text
+  text_of_plan text file is h = record { made = h.made; lowered = h.lowered; written = is ∙ h.written }
+
+  -- what is told of the text of the plan that was made
+  pub is_refused : (text : List ℕ) (fault : Fault) → IsPlanText a s text → IsUnaccepted a text fault → IsRefusedPlan a s fault
+  is_refused text fault h refused = record {
+    text = text;
+    of_schedule = h;
+    refused = refused;
+    limit = λ splits. is_limit text h.made (h.lowered.file (splits_once a s splits)) h.written a (h.lowered.limits splits) fault refused;
+    wrong = λ splits small. read_wrong text h.made (h.lowered.file splits) h.written a (h.lowered.stores splits.whole small) fault refused;
+  }
+
+  pub is_compiled : (text : List ℕ) (plan : PlanMade) (cert : Cert) → IsPlanText a s text → IsAccepted a text plan cert → IsCompiledPlan a s plan cert
+  is_compiled text plan cert h accepted = record {
+    text = text;
+    of_schedule = h;
+    accepted = accepted;
+    same = λ splits. same_plan text h.made (h.lowered.file splits) h.written (plan_of plan) (certificate_of cert) accepted.file;
+  }

@@ -51,6 +51,10 @@ pub record IsNotLowered (a : Algorithm) (s : Schedule) (fault : Fault) : Type 0 
   pub refused : IsRefusedSchedule a s error
   pub is : fault ≡ lower_fault error
 
+-- why there is no text of a plan: memory runs out, or the schedule is refused
+abbrev pub IsUnwritten : Algorithm → Schedule → Fault → Type 0
+IsUnwritten a s fault = (fault ≡ Memory) ⊎ IsNotLowered a s fault
+
 -- ---- the plan
 
 -- what `lower` says of the plan that it makes of a legal schedule, and of its certificate, and what follows: each group has a line of what its pieces own;

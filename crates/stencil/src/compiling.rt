@@ -7,7 +7,7 @@ ghost use Rattle.sched.specs.View.{schedule_of};
 ghost use Rattle.plan.specs.View.{plan_of};
 ghost use Rattle.plan.specs.Certificate.Certificate.{certificate_of};
 ghost use Rattle.completeness.specs.OfPlans.{file_text};
-ghost use Rattle.stencil.specs.Compiling.{IsCompiledPlan, IsLowered, IsNotCompiled, IsNotLowered, IsPlanText, IsScheduleRefused, IsScheduleText, IsUnaccepted};
+ghost use Rattle.stencil.specs.Compiling.{IsCompiledPlan, IsLowered, IsNotCompiled, IsNotLowered, IsPlanText, IsScheduleRefused, IsScheduleText, IsUnaccepted, IsUnwritten};
 ghost use Rattle.stencil.specs.Faults.{limit_fault, lower_fault};
 ghost use Rattle.commands.specs.Pipeline.PlanFiles.{HasPlan, IsAccepted};
 
@@ -78,7 +78,11 @@ fn written(alloc: Global, lowered: &Lowered) -> Result<String, AllocError>
 }
 
 /// The text of the plan that is made of a schedule, which nobody has checked.
-pub(crate) fn plan_text(alloc: Global, algo: &Algo, sched: &Sched) -> Result<String, Fault> {
+pub(crate) fn plan_text(alloc: Global, algo: &Algo, sched: &Sched) -> Result<String, Fault>
+    ensures legal { OnOk result (IsLegal (algorithm_of algo.now) (schedule_of sched.now)) }
+    ensures made { IfOk result (λ file. IsPlanText (algorithm_of algo.now) (schedule_of sched.now) (string_bytes file)) }
+    ensures refused { IfErr result (IsUnwritten (algorithm_of algo.now) (schedule_of sched.now)) }
+{
     let plan = lowered(alloc, algo, sched)?;
     Ok(written(alloc, &plan)?)
 }
@@ -127,8 +131,7 @@ pub fn compile_checked<'a, T: Threads + Sync>(
     ensures of_schedule { IfOk result (λ checked. IsCompiledPlan (algorithm_of algo.now) (schedule_of sched.now) checked.plan checked.cert) }
     ensures refused { IfErr result (IsNotCompiled (algorithm_of algo.now) (schedule_of sched.now)) }
 {
-    let plan = lowered(alloc, algo, sched)?;
-    let file = written(alloc, &plan)?;
+    let file = plan_text(alloc, algo, sched)?;
     accept(rt, alloc, algo, file.as_str())
 }
 
@@ -148,8 +151,7 @@ pub fn compile<T: Threads + Sync>(
     ensures accepted { IfOk result (λ file. HasPlan (algorithm_of algo.now) (string_bytes file)) }
     ensures refused { IfErr result (IsNotCompiled (algorithm_of algo.now) (schedule_of sched.now)) }
 {
-    let plan = lowered(alloc, algo, sched)?;
-    let file = written(alloc, &plan)?;
+    let file = plan_text(alloc, algo, sched)?;
     drop(accept(rt, alloc, algo, file.as_str())?);
     Ok(file)
 }

@@ -1,13 +1,14 @@
-use Rattle.std.proofs.Common.{◌-◌, ◌∙◌, ℕ, get_or, length, arith, ap, sym}
-use Rattle.board.proofs.ByCell.{place_inside, get_sample}
+use Rattle.std.proofs.Common.{◌-◌, ◌∙◌, ℕ, get_or, arith, ap, sym}
+use Rattle.std.proofs.lemmas.List.{get_or_past}
+use Rattle.board.proofs.ByCell.{get_sample}
 use Rattle.board.proofs.kept.bits_of_cell.Goals as goal
 
-pub bounds-samples-sample_place : goal.bounds-samples-sample_place
-bounds-samples-sample_place c =
-    let inside = place_inside c.args.planes (c.args.cell - length c.args.bits.now) (omega (arith, c.requires.inside, c.if-cell-bits.false)) in
-    omega (arith, inside, c.sample_place.ensures, c.requires.fits)
+pub returns-then-place-samples : goal.returns-then-place-samples
+returns-then-place-samples c =
+    c.from.ensures ∙ ap (λ (n : ℕ). get_or c.args.samples.now n 0) c.sample_place-place.ensures
+    ∙ sym (get_sample c.args.planes c.args.bits.now c.args.samples.now c.args.cell c.if-cell-bits.false c.requires.inside)
 
-pub returns-else-cell-bits : goal.returns-else-cell-bits
-returns-else-cell-bits c =
-    c.from.ensures ∙ ap (λ (n : ℕ). get_or c.args.samples.now n 0) c.sample_place.ensures
+pub returns-else-place-samples : goal.returns-else-place-samples
+returns-else-place-samples c =
+    sym (get_or_past c.args.samples.now c.sample_place-place.result 0 (omega (arith, c.if-place-samples.false))) ∙ ap (λ (n : ℕ). get_or c.args.samples.now n 0) c.sample_place-place.ensures
     ∙ sym (get_sample c.args.planes c.args.bits.now c.args.samples.now c.args.cell c.if-cell-bits.false c.requires.inside)

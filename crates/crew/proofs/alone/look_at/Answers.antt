@@ -2,6 +2,7 @@ use Rattle.std.proofs.Common.{◌≡◌, ◌+◌, ◌<◌, ◌++◌, ◌∙◌, 
 use Rattle.std.specs.Prelude.{drop, slice_index, take}
 use Rattle.std.proofs.lemmas.List.{append_assoc, get_or-drop, get_or-take, length-append, length-map}
 use Rattle.board.specs.Layout.{value_at}
+use Rattle.board.specs.Seen.{seen_bits}
 use Rattle.board.specs.Sheets.{IsPutCell}
 use Rattle.board.specs.Words.{bits_of}
 use Rattle.crew.specs.Private.{words_at}
@@ -15,7 +16,7 @@ look_at_part-requires-clause-put g c k lt =
     let front : List ℕ = c.split_at.result.0.now in
     let here : k < n = omega (arith, lt, c.split_at.ensures.front_len) in
     let same : slice_index rest k ≡ slice_index front k = sym (get_or-take n rest k 0 here) ∙ ap (λ (xs : List ℕ). get_or xs k 0) (sym c.split_at.ensures.front) in
-    subst (λ (d : ℕ). IsPutCell g.J.Run.layout g.J.Run.values c.args.sheet.now d) same (c.loop-rest.invariant.put k (omega (arith, lt, c.split_at.ensures.front_len, c.min.ensures)))
+    subst (λ (d : ℕ). IsPutCell g.J.Run.layout g.J.Run.values (seen_bits c.args.seen.now) d) same (c.loop-rest.invariant.put k (omega (arith, lt, c.split_at.ensures.front_len, c.min.ensures)))
 
 pub loop-rest-preserved : goal.loop-rest-preserved
 loop-rest-preserved g c =
@@ -36,5 +37,5 @@ loop-rest-preserved g c =
       room = c.look_at_part.ensures.room ∙ c.loop-rest.invariant.room;
       put = λ k lt.
           let same : slice_index rest (n + k) ≡ slice_index back k = sym (get_or-drop n rest k 0) ∙ ap (λ (xs : List ℕ). get_or xs k 0) (sym c.split_at.ensures.back) in
-          subst (λ (d : ℕ). IsPutCell g.J.Run.layout V c.args.sheet.now d) same (c.loop-rest.invariant.put (n + k) (omega (arith, lt, c.split_at.ensures.back_len)));
+          subst (λ (d : ℕ). IsPutCell g.J.Run.layout V (seen_bits c.args.seen.now) d) same (c.loop-rest.invariant.put (n + k) (omega (arith, lt, c.split_at.ensures.back_len)));
     }

@@ -1,33 +1,33 @@
-use Rattle.std.proofs.Common.{◌%◌, ◌/◌, ◌<◌, ◌∙◌, ℕ, List, Vec, length, ap, sym, subst, arith}
-use Rattle.std.specs.Global.{Global}
-use Rattle.std.proofs.Math.Nat.{mod-lt}
-use Rattle.board.specs.Layout.{pieces_of}
-use Rattle.crew.specs.Stages.{IsHand}
-use Rattle.crew.specs.declared.stages.Hand.{Hand}
-use Rattle.crew.proofs.Hands.{kept_there, whole_piece}
+use Rattle.std.proofs.Common.{◌≡◌, ◌+◌, ◌<◌, ◌≤◌, ◌∙◌, ℕ, ℤ, List, get_or, length, ap, subst, sym, arith}
+use Rattle.board.specs.Layout.{Layout}
+use Rattle.crew.specs.Stages.{ArePut}
 use Rattle.crew.proofs.InOrder.{one_piece_more}
+use Rattle.crew.proofs.Staged.{left_still}
 use Rattle.crew.proofs.stages.put_stage.Goals as goal
 
-pub put_kept-requires-clause-kept : goal.put_kept-requires-clause-kept
-put_kept-requires-clause-kept g c =
-    let x = g.P.PrivateRuns.plan c.args.runs.now in
-    let S = g.P.PrivateRuns.suffices c.args.runs.now in
-    let hands : List Hand = c.args.hands.now in
-    let piece : ℕ = c.loop-piece.piece in
-    let count : ℕ = length hands in
-    let hand : Hand = c.index-hands-piece.result in
-    let Is : Hand → Type 0 = IsHand g.J.Run.layout g.J.Run.values x S count c.args.to (piece % count) in
-    let at : Is hand = subst Is (sym c.index-hands-piece.is) (c.requires.hands (piece % count) hand (mod-lt piece c.requires.some)) in
-    let inside : piece < pieces_of g.J.Run.layout = omega (arith, c.loop-piece-test.true, c.requires.stage.1) in
-    let kept = kept_there g.J.Run.layout g.J.Run.values x S count c.args.to (piece % count) (piece / count) piece hand c.index-list.result.now
-    at (whole_piece piece count) c.loop-piece-test.true inside in
-    c.as_slice.ensures.value ∙ ap (λ (v : Vec ℕ Global). v.items) c.index-list.ensures ∙ kept.1
+pub loop-i-preserved : goal.loop-i-preserved
+loop-i-preserved g c =
+    let L : Layout = g.J.Run.layout in
+    let V : List ℤ = g.J.Run.values in
+    let had = c.loop-i.invariant in
+    let old : List ℕ = c.loop-i.sheet in
+    let new : List ℕ = c.put_left.new.sheet in
+    let next : c.args.first + c.loop-i.i + 1 ≡ c.args.first + (c.loop-i.i + 1) = omega arith in
+    record {
+      put = subst (λ (n : ℕ). ArePut L V new n) next (one_piece_more L V old new (c.args.first + c.loop-i.i) had.put c.put_left.ensures.more c.put_left.ensures.put);
+      left = λ m d le lt. left_still L V old new (c.args.first + m) (get_or c.args.lists.now m d).items c.put_left.ensures.more (had.left m d (omega (arith, le)) lt);
+    }
 
-pub loop-piece-preserved : goal.loop-piece-preserved
-loop-piece-preserved g c = record {
-  from = omega (arith, c.loop-piece.invariant.from);
-  put = one_piece_more g.J.Run.layout g.J.Run.values c.loop-piece.sheet c.put_kept.new.self c.loop-piece.piece c.loop-piece.invariant.put c.put_kept.ensures.more c.put_kept.ensures.put;
-}
+pub loop-i-init : goal.loop-i-init
+loop-i-init g c =
+    let none : c.args.first ≡ c.args.first + 0 = omega arith in
+    record {
+      put = subst (λ (n : ℕ). ArePut g.J.Run.layout g.J.Run.values c.args.sheet.now n) none c.requires.put;
+      left = λ m d le lt. c.requires.left m d lt;
+    }
+
+pub overflow_add-first : goal.overflow_add-first
+overflow_add-first g c = omega (arith, c.requires.inside, c.loop-i-test.true, c.pieces.ensures.few, c.pieces.ensures.count)
 
 pub returns : goal.returns
-returns g c j lt = c.loop-piece.invariant.put j (omega (arith, lt, c.loop-piece-test.false))
+returns g c j lt = c.loop-i.invariant.put j (omega (arith, lt, c.loop-i-test.false))

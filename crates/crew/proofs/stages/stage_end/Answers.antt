@@ -1,6 +1,6 @@
 use Rattle.std.proofs.Common.{arith}
 use Rattle.std.proofs.lemmas.Bool.{OnTrue_at}
-use Rattle.crew.proofs.Hands.{stage_on, stage_within}
+use Rattle.crew.proofs.Staged.{stage_on, stage_within}
 use Rattle.crew.proofs.stages.stage_end.Goals as goal
 
 pub loop-to-preserved : goal.loop-to-preserved

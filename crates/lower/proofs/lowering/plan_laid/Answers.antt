@@ -1,18 +1,15 @@
-use Rattle.std.proofs.Common.{◌≡◌, ℕ, List, Option, None, Some, Err, length, map, take, sym, subst, ◌∙◌}
+use Rattle.std.proofs.Common.{◌≡◌, ℕ, List, Option, None, Err, length, map, sym, subst, ◌∙◌}
 use Rattle.std.proofs.lemmas.List.{length-map}
 use Rattle.std.specs.Option.{option_map}
 use Rattle.algo.specs.View.{algorithm_of}
 use Rattle.sched.specs.declared.error.Rule.{Rule}
 use Rattle.lower.specs.declared.error.LowerError.{LowerError}
 use Rattle.lower.specs.Stored.{stored_of}
-use Rattle.lower.specs.Broken.{leaves_others, first_from}
 use Rattle.lower.specs.Large.{Finds}
 use Rattle.lower.specs.Regions.{laid_of}
-use Rattle.lower.specs.Faults.{no_totals}
 use Rattle.lower.specs.Groups.{IsKeptPlan, inside_at}
 use Rattle.lower.specs.Refused.{AnswersBy, IsFirstOver, IsPlaced}
 use Rattle.lower.specs.Uses.{FindsUse}
-use Rattle.lower.proofs.First.{Fault}
 use Rattle.lower.proofs.Told.{fault_told, placed_told, unplanned_told}
 use Rattle.lower.proofs.lowering.plan_laid.Goals as goal
 
