@@ -22,7 +22,8 @@ use Rattle.soundness.proofs.Refines.{and_parts, eq_true}
 use Rattle.obligations.specs.Asked.{is_asked, flaw_of, told as told_obligation, first_unmet}
 use Rattle.obligations.specs.declared.context.judge.Part.{Part}
 use Rattle.audit.specs.Verdict.Faults.{IsFault, IsOfDebt}
-use Rattle.audit.specs.Verdict.Left.{leaves, on, stores_at, some_stores_at}
+use Rattle.audit.specs.Verdict.Left.{leaves, stores_at, some_stores_at}
+use Rattle.validation.specs.Groups.Lines.{on}
 use Rattle.completeness.specs.Laws.{AreLinesTold}
 use Rattle.completeness.proofs.TakenSites.{Has}
 use Rattle.completeness.proofs.WideLines.{wide_first, wide_within}

@@ -95,8 +95,10 @@ fn run_on<J: Run + Send + Sync, G: Gate, R: Threads + Wait + Sync>(
 /// in the caller's. A worker looks at the cells that a piece fetches and computes the piece by its private run.
 ///
 /// Pieces that follow each other, each of which needs only pieces before all of them, are a stage. Where, on the average, a stage
-/// has a piece for each worker, they go stage by stage: of each stage, of so many pieces one is each worker's. It keeps what it
-/// has computed, and once all have come back the caller puts it on the sheet of which they all read in the next stage.
+/// has a piece for each worker, they go stage by stage: of each stage each worker has some pieces that follow each other, as many as
+/// every other, but for one. Where no piece before the stage has samples of the picture, it has a part of these as well, in which it
+/// writes each piece whose samples all lie there. What else it has computed it keeps, and once all have come back the caller puts it
+/// on the sheet of which they all read in the next stage.
 ///
 /// Else they share a board: each draws a piece, waits until the pieces that it needs are finished, computes it, puts its own
 /// cells and finishes it, until all pieces are drawn. Where no thread can be started the first computes them all.
@@ -104,16 +106,17 @@ fn run_on<J: Run + Send + Sync, G: Gate, R: Threads + Wait + Sync>(
 /// The gate hears of each piece from the worker that computes it, before and after. The worker goes on once the gate's call
 /// returns.
 ///
-/// In stages what is kept takes 4 bytes for a cell, the sheet 4 for a cell of another group than the output's (for each cell where
-/// the region of the output's group is larger than the picture, or cells of other groups come after its own), and each piece 32. A
-/// board takes 8 bytes for each piece and each cell (twice as much while it opens), and 8 more for each piece. Both take 2 for each
-/// sample of the picture, and 4 more where the region of the output's group is larger than the picture. For each coordinate of a
-/// group's region 16 bytes are kept. Each worker has a desk. On it lies a scratch for all groups, which takes 5 bytes for each
-/// place of the buffers, and room of 8 that is not touched unless a number does not fit its type, of each number as many as the
-/// group asks for that asks for most, 24 for each line that binds a symbol, 4 for each count of the largest grid, 16 for each
-/// coordinate of own cells and of the points at which lines fetch and store, 8 for each index of the calls in stores, and 8 for
-/// each own cell of the piece that owns most; and for each fetched cell of the piece that fetches most 8 bytes, and 16 or more in
-/// an index of these cells. All this is taken before the first worker starts; the workers take no memory.
+/// In stages there is room for what is kept, 4 bytes for a cell, and the sheet takes 4 for a cell of another group than the
+/// output's (for each cell where the region of the output's group is larger than the picture, or cells of other groups come after
+/// its own), and each piece 32. A board takes 8 bytes for each piece and each cell (twice as much while it opens), and 8 more for
+/// each piece. Both take 2 for each sample of the picture, and 4 more where the region of the output's group is larger than the
+/// picture. For each coordinate of a group's region 16 bytes are kept. Each worker has a desk. On it lies a scratch for all
+/// groups, which takes 5 bytes for each place of the buffers, and room of 8 that is not touched unless a number does not fit its
+/// type, of each number as many as the group asks for that asks for most, 24 for each line that binds a symbol, 4 for each count
+/// of the largest grid, 16 for each coordinate of own cells and of the points at which lines fetch and store, 8 for each index of
+/// the calls in stores, and 8 for each own cell of the piece that owns most; and for each fetched cell of the piece that fetches
+/// most 8 bytes, and 16 or more in an index of these cells. All this is taken before the first worker starts; the workers take no
+/// memory.
 ///
 /// # Errors
 /// `Memory` where memory runs out, which is before the first worker starts. No piece is left unfinished.

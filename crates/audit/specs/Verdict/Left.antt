@@ -9,6 +9,7 @@ use Rattle.plan.specs.declared.stmt.Places.TheVariants.{From, Folded}
 use Rattle.plan.specs.Plan.{Plan, Group, Statement, Seq, For, Let, First, Guard, Alloc, Fetch, Store, Publish, Statements, Empty, Then}
 use Rattle.plan.specs.Lines.{body_line, group_line, lines}
 use Rattle.soundness.specs.Outline.Flaws.{line_told}
+use Rattle.validation.specs.Groups.Lines.{on}
 
 -- the factors come to at most so much in all
 abbrev pub factors_fit : ℕ → List Multiple → Bool
@@ -40,10 +41,6 @@ abbrev mutual
   pub all_leave : ℕ → ℕ → Statements → Bool
   all_leave b n Empty = true
   all_leave b n (Then a rest) = leaves b n a && all_leave b n rest
-
--- a line so many lines on, as it is told
-abbrev pub on : ℕ → ℕ → ℕ
-on begun n = line_told (begun + n)
 
 -- at this line stands a store into the buffer, with so many coordinates, where the statement begins at the line `begun`
 module _ (buffer coordinates line : ℕ) where
