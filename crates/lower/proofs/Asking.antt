@@ -8,6 +8,7 @@ use Rattle.std.proofs.lemmas.Bool.{false≢true}
 use Rattle.std.proofs.lemmas.List.{length-map}
 use Rattle.meaning.specs.Algorithm.{Algorithm}
 use Rattle.sched.specs.declared.error.Rule.{Rule}
+use Rattle.sched.specs.Placing.{SubjectText}
 use Rattle.sched.specs.declared.region_rule.RegionRule.{RegionRule}
 use Rattle.lower.specs.declared.definitions.Formula.{Formula}
 use Rattle.lower.specs.declared.definitions.Stored.{Stored}
@@ -27,7 +28,7 @@ use Rattle.lower.specs.Asked.{reach_in, laid_again, laid_anew, laid_each, are_sa
 use Rattle.lower.specs.Homes.{AreAllAtHome}
 use Rattle.lower.specs.Computed.{AreAllFound}
 use Rattle.lower.specs.Groups.{IsOverRegion, AreOverRegions, AreAllFoundIf, Round, Come, all_rooted, all_known, rounds, asked, rooted, is_missing, inside_of, inside_at, placed_in, party_of, placed_of, IsKnown, AreKnown, AreFoundOf, HasGroupsFrom, IsKeptPlan}
-use Rattle.lower.specs.Refused.{Answers, AnswersBy, AnswersFrom, IsFirstOver, IsFirstFrom}
+use Rattle.lower.specs.Refused.{Answers, AnswersBy, AnswersFrom, IsAskedFrom, IsFirstOver, IsFirstFrom, IsNoneOver, IsNoneFrom}
 use Rattle.lower.proofs.First.{formulas_at, no_formulas}
 use Rattle.lower.proofs.Grouped.{all_found, all_inside, placed_all}
 use Rattle.lower.proofs.Laying.{laid_it, bound}
@@ -120,23 +121,26 @@ are_known : (qs : List Party) → list_any is_missing (map inside_at qs) ≡ fal
 are_known [] e = tt
 are_known (q ∷ qs) e = let k = first_known q.inners (list_any is_missing (map inside_at qs)) e in (k.0, are_known qs k.1)
 
-answers_weaker : (a : Algorithm) (gs : List StoredText) (P P' : Lowered → Type 0) (Q Q' : RegionRule → List ℕ → Type 0) (o : Option (Rule × List ℕ)) (r : Result Lowered LowerError)
-    → ((l : Lowered) → P l → P' l) → ((q : RegionRule) (x : List ℕ) → Q q x → Q' q x) → AnswersBy a gs P Q o r → AnswersBy a gs P' Q' o r
-answers_weaker a gs P P' Q Q' o (Ok l) f g h = (h.0, h.1, h.2, f l h.3, h.4)
-answers_weaker a gs P P' Q Q' o (Err error.Memory) f g h = tt
-answers_weaker a gs P P' Q Q' o (Err (error.Schedule e)) f g h = h
-answers_weaker a gs P P' Q Q' o (Err (error.Broken r x)) f g h = (h.0, h.1, g r x h.2)
+answers_weaker : (a : Algorithm) (gs : List StoredText) (P P' : Lowered → Type 0) (Q Q' : RegionRule → List ℕ → Type 0) (N N' : Type 0) (o : Option (Rule × List ℕ))
+    (r : Result Lowered LowerError) → ((l : Lowered) → P l → P' l) → ((q : RegionRule) (x : List ℕ) → Q q x → Q' q x) → (N → N') → AnswersBy a gs P Q N o r → AnswersBy a gs P' Q' N' o r
+answers_weaker a gs P P' Q Q' N N' o (Ok l) f g k h = (h.0, h.1, h.2, f l h.3, h.4)
+answers_weaker a gs P P' Q Q' N N' o (Err error.Memory) f g k h = tt
+answers_weaker a gs P P' Q Q' N N' o (Err (error.Schedule e)) f g k h = (h.0, k h.1)
+answers_weaker a gs P P' Q Q' N N' o (Err (error.Broken r x)) f g k h = (h.0, h.1, g r x h.2)
 
-module _ (a : Algorithm) (gs : List StoredText) (ls : List (Option LaidText)) (qs : List Party) (o : Option (Rule × List ℕ)) (r : Result Lowered LowerError)
+module _ (a : Algorithm) (us : List SubjectText) (gs : List StoredText) (ls : List (Option LaidText)) (qs : List Party) (o : Option (Rule × List ℕ)) (r : Result Lowered LowerError)
     (roots : map party_of qs ≡ rooted true gs ls) (homes : AreAllAtHome (map party_of qs) (rooted false gs ls) (map placed_of qs))
     (found : AreFoundOf a (length (rooted false gs ls)) (rooted false gs ls) qs) where
   at_home : AreAllAtHome (rooted true gs ls) (rooted false gs ls) (map placed_of qs)
   at_home = subst (λ (es : List Entry). AreAllAtHome es (rooted false gs ls) (map placed_of qs)) roots homes
 
-  come_here : (n : ℕ) → Come a gs n ls ls (map inside_at qs) → (are_whole gs ≡ true → ls ≡ laid_functions a gs)
-      → AnswersBy a gs (IsKeptPlan a gs ls qs) (IsFirstOver a gs o ls (map inside_at qs)) o r → AnswersFrom a gs n ls o r
+  -- what is said over these regions
+  abbrev Here : Type 0
+  Here = AnswersBy a gs (IsKeptPlan a gs ls qs) (IsFirstOver a us gs o ls (map inside_at qs)) (IsNoneOver a us gs o ls (map inside_at qs)) o r
+
+  come_here : (n : ℕ) → Come a gs n ls ls (map inside_at qs) → (are_whole gs ≡ true → ls ≡ laid_functions a gs) → Here → AnswersFrom a us gs n ls o r
   come_here n come laid is =
-      let broken : (q : RegionRule) (x : List ℕ) → IsFirstOver a gs o ls (map inside_at qs) q x → IsFirstFrom a gs n ls o q x = λ q x h. record {
+      let over : (P : List (Option LaidText) → List Inside → Type 0) → P ls (map inside_at qs) → IsAskedFrom a gs n ls P = λ P h. record {
         regions = ls;
         inside = map inside_at qs;
         homes = subst (λ (js : List (List PlacedText)). AreAllAtHome (rooted true gs ls) (rooted false gs ls) js) (sym (placed_all qs)) at_home;
@@ -145,22 +149,22 @@ module _ (a : Algorithm) (gs : List StoredText) (ls : List (Option LaidText)) (q
         come = come;
         over = h;
       } in
-      answers_weaker a gs (IsKeptPlan a gs ls qs) (HasGroupsFrom a gs n ls) (IsFirstOver a gs o ls (map inside_at qs)) (IsFirstFrom a gs n ls o) o r
-      (λ l p. groups_made a gs n ls qs l p laid come) broken is
+      answers_weaker a gs (IsKeptPlan a gs ls qs) (HasGroupsFrom a gs n ls) (IsFirstOver a us gs o ls (map inside_at qs)) (IsFirstFrom a us gs n ls o)
+      (IsNoneOver a us gs o ls (map inside_at qs)) (IsNoneFrom a us gs n ls o) o r (λ l p. groups_made a gs n ls qs l p laid come)
+      (λ q x h. over (λ ms inside. IsFirstOver a us gs o ms inside q x) h) (λ h. over (IsNoneOver a us gs o) h) is
 
   -- no round more may be made
-  pub no_more : (n : ℕ) → n ≡ 0 → AnswersBy a gs (IsKeptPlan a gs ls qs) (IsFirstOver a gs o ls (map inside_at qs)) o r → (are_whole gs ≡ true → ls ≡ laid_functions a gs)
-      → AnswersFrom a gs n ls o r
-  no_more n e is laid = subst (λ (k : ℕ). AnswersFrom a gs k ls o r) (sym e) (come_here 0 refl laid is)
+  pub no_more : (n : ℕ) → n ≡ 0 → Here → (are_whole gs ≡ true → ls ≡ laid_functions a gs) → AnswersFrom a us gs n ls o r
+  no_more n e is laid = subst (λ (k : ℕ). AnswersFrom a us gs k ls o r) (sym e) (come_here 0 refl laid is)
 
   -- the turns ask for no others, or a bound is missing
   pub no_others : (n k : ℕ) → n ≡ k + 1 → None ≡ unless (list_any is_missing (map inside_at qs)) (asked a gs ls (map placed_in (map inside_at qs)))
-      → AnswersBy a gs (IsKeptPlan a gs ls qs) (IsFirstOver a gs o ls (map inside_at qs)) o r → (are_whole gs ≡ true → ls ≡ laid_functions a gs) → AnswersFrom a gs n ls o r
-  no_others n k e none is laid = subst (λ (m : ℕ). AnswersFrom a gs m ls o r) (sym (e ∙ add-one k)) (come_here (suc k) (inl (refl, sym none)) laid is)
+      → Here → (are_whole gs ≡ true → ls ≡ laid_functions a gs) → AnswersFrom a us gs n ls o r
+  no_others n k e none is laid = subst (λ (m : ℕ). AnswersFrom a us gs m ls o r) (sym (e ∙ add-one k)) (come_here (suc k) (inl (refl, sym none)) laid is)
 
   -- they ask for these
   pub one_more : (n k : ℕ) (ms : List (Option LaidText)) → n ≡ k + 1 → Some ms ≡ unless (list_any is_missing (map inside_at qs)) (asked a gs ls (map placed_in (map inside_at qs)))
-      → AnswersFrom a gs k ms o r → AnswersFrom a gs n ls o r
+      → AnswersFrom a us gs k ms o r → AnswersFrom a us gs n ls o r
   one_more n k ms e some is =
       let told = is_told (asked a gs ls (map placed_in (map inside_at qs))) (list_any is_missing (map inside_at qs)) ms (sym some) in
       let among = all_found a (length (rooted false gs ls)) (rooted false gs ls) qs found (are_known qs told.0) in
@@ -189,7 +193,7 @@ module _ (a : Algorithm) (gs : List StoredText) (ls : List (Option LaidText)) (q
           kept = h.placed.kept;
         };
       } in
-      let broken : (q : RegionRule) (x : List ℕ) → IsFirstFrom a gs k ms o q x → IsFirstFrom a gs (suc k) ls o q x = λ q x h. record {
+      let over : (P : List (Option LaidText) → List Inside → Type 0) → IsAskedFrom a gs k ms P → IsAskedFrom a gs (suc k) ls P = λ P h. record {
         regions = h.regions;
         inside = h.inside;
         homes = h.homes;
@@ -197,10 +201,11 @@ module _ (a : Algorithm) (gs : List StoredText) (ls : List (Option LaidText)) (q
         come = inr (round (λ others. Come a gs k others h.regions h.inside) h.come);
         over = h.over;
       } in
-      subst (λ (m : ℕ). AnswersFrom a gs m ls o r) (sym (e ∙ add-one k))
-      (answers_weaker a gs (HasGroupsFrom a gs k ms) (HasGroupsFrom a gs (suc k) ls) (IsFirstFrom a gs k ms o) (IsFirstFrom a gs (suc k) ls o) o r later broken is)
+      subst (λ (m : ℕ). AnswersFrom a us gs m ls o r) (sym (e ∙ add-one k))
+      (answers_weaker a gs (HasGroupsFrom a gs k ms) (HasGroupsFrom a gs (suc k) ls) (IsFirstFrom a us gs k ms o) (IsFirstFrom a us gs (suc k) ls o)
+      (IsNoneFrom a us gs k ms o) (IsNoneFrom a us gs (suc k) ls o) o r later (λ q x h. over (λ rs inside. IsFirstOver a us gs o rs inside q x) h) (λ h. over (IsNoneOver a us gs o) h) is)
 
 -- from the regions that are needed of the loops over whole functions on, as many rounds as there may be
-pub from_needed : (a : Algorithm) (gs : List StoredText) (o : Option (Rule × List ℕ)) (r : Result Lowered LowerError) (n : ℕ) (ls : List (Option LaidText)) → n ≡ rounds gs
-    → ls ≡ laid_functions a gs → AnswersFrom a gs n ls o r → Answers a gs o r
-from_needed a gs o r n ls e h is = subst (λ (m : ℕ). AnswersFrom a gs m (laid_functions a gs) o r) e (subst (λ (ms : List (Option LaidText)). AnswersFrom a gs n ms o r) h is)
+pub from_needed : (a : Algorithm) (us : List SubjectText) (gs : List StoredText) (o : Option (Rule × List ℕ)) (r : Result Lowered LowerError) (n : ℕ) (ls : List (Option LaidText))
+    → n ≡ rounds gs → ls ≡ laid_functions a gs → AnswersFrom a us gs n ls o r → Answers a us gs o r
+from_needed a us gs o r n ls e h is = subst (λ (m : ℕ). AnswersFrom a us gs m (laid_functions a gs) o r) e (subst (λ (ms : List (Option LaidText)). AnswersFrom a us gs n ms o r) h is)

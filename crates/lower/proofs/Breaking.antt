@@ -1,5 +1,5 @@
 -- The first function that breaks a rule, as it is found one function after another.
-use Rattle.std.proofs.Common.{◌≡◌, ℕ, zero, suc, ◌+◌, ◌-◌, ◌<◌, Bool, true, false, List, [], ◌∷◌, length, map, take, drop, arith, Option, Some, None, Result, refl, sym, ap, subst, ◌∙◌, add-one}
+use Rattle.std.proofs.Common.{◌≡◌, ℕ, zero, suc, ◌+◌, ◌<◌, Bool, true, false, List, [], ◌∷◌, length, map, take, drop, arith, Option, Some, None, Result, refl, sym, ap, subst, ◌∙◌, add-one}
 use Rattle.std.specs.Prelude.{if◌then◌else◌, IfOk, get_or}
 use Rattle.std.specs.Global.{Vec}
 use Rattle.std.proofs.lemmas.Result.{IfOk-weaker}
@@ -152,11 +152,6 @@ pub whole_told : (a : Algorithm) (gs : List StoredText) (inside : List Inside) (
     → q ≡ first_from a gs inside (leaves_others gs o) no_totals (take n gs) ls → IsFirstOf a (has_large gs) no_totals n gs ls q
 whole_told a gs inside o n ls q h w =
     h ∙ whole_first a gs inside (leaves_others gs o) no_totals n gs ls w ∙ ap (λ b. fault_from a b no_totals (take n gs) ls) (missed_large gs o w)
-
--- the first of some of them is the first of all
-pub first_is_over : (a : Algorithm) (gs : List StoredText) (inside : List Inside) (o : Option (Rule × List ℕ)) (n : ℕ) (ls : List (Option LaidText)) (e : Fault)
-    → Some e ≡ first_from a gs inside (leaves_others gs o) no_totals (take n gs) ls → first_over a gs o ls inside ≡ Some e
-first_is_over a gs inside o n ls e h = sym (before_is a gs inside (leaves_others gs o) no_totals n gs ls e h)
 
 pub none_is_over : (a : Algorithm) (gs : List StoredText) (inside : List Inside) (o : Option (Rule × List ℕ)) (n : ℕ) (ls : List (Option LaidText)) → n ≡ length gs
     → None ≡ first_from a gs inside (leaves_others gs o) no_totals (take n gs) ls → first_over a gs o ls inside ≡ None

@@ -1,23 +1,20 @@
 -- What is told of the uses of functions outside of their loops.
-use Rattle.std.proofs.Common.{◌≡◌, ◌≢◌, inl, inr, ℕ, zero, suc, ◌+◌, ◌-◌, ◌<◌, Bool, true, false, ◌&&◌, ◌||◌, List, [], ◌∷◌, length, map, take, drop, Option, Some, None, Result, refl, sym, ap, subst, ◌∙◌, arith, add-one}
-use Rattle.std.specs.Prelude.{IfOk, get_or, slice_get}
-use Rattle.std.specs.Option.{option_map}
+use Rattle.std.proofs.Common.{◌≡◌, inl, inr, ℕ, zero, suc, ◌+◌, ◌<◌, Bool, true, false, ◌||◌, List, [], ◌∷◌, length, map, take, drop, Option, Some, None, Result, refl, sym, ap, subst, ◌∙◌, arith, add-one}
+use Rattle.std.specs.Prelude.{IfOk, get_or}
 use Rattle.std.specs.List.{list_any}
 use Rattle.std.proofs.Math.Seq.{take-length}
 use Rattle.std.proofs.lemmas.Bool.{false≢true}
 use Rattle.std.proofs.lemmas.Bool.Decides.{not_from_Decides}
-use Rattle.std.proofs.lemmas.Option.{slice_get-map}
 use Rattle.std.proofs.lemmas.Result.{IfOk-weaker}
-use Rattle.meaning.specs.Names.{same_name}
 use Rattle.sched.specs.declared.schedule.Home.{Home}
-use Rattle.sched.proofs.Deciding.{any_decides, name_decides}
+use Rattle.sched.proofs.Deciding.{any_decides}
 use Rattle.sched.specs.declared.region_rule.RegionRule.{RegionRule}
 use Rattle.sched.specs.declared.region_rule.RegionRule.TheVariants as rule
 use Rattle.lower.specs.declared.definitions.Stored.{Stored}
-use Rattle.lower.specs.Stored.{StoredText, stored_of, is_large, has_large}
-use Rattle.lower.specs.Large.{IsByRegion, IsTold}
-use Rattle.lower.specs.Faults.{is_homeless, is_whole, are_whole}
-use Rattle.lower.specs.Uses.{first_home, passes, uses_outside, is_used_outside, is_used_named, is_used_at, IsUsedOutside, AreUsedInside, TellsOf, IsUseTold, is_use, TellsUse, FindsUse}
+use Rattle.lower.specs.Stored.{StoredText, stored_of}
+use Rattle.lower.specs.Large.{IsByRegion}
+use Rattle.lower.specs.Faults.{is_homeless}
+use Rattle.lower.specs.Uses.{first_home, passes, uses_outside, is_used_outside, IsUsedOutside, AreUsedInside, TellsOf, IsUseTold, is_use, TellsUse, FindsUse}
 use Rattle.lower.proofs.Insides.{used_decides}
 
 abbrev pub Told : Type 0
@@ -95,33 +92,6 @@ later_in all (x ∷ ss) rest s n k r e lt is h others f =
 
 -- ---- all of them
 
-both : (a b : Bool) → (a && b) ≡ true → (a ≡ true) × (b ≡ true)
-both true b h = (refl, h)
-both false b h = absurd (false≢true h)
-
-neither : (a b : Bool) → (a || b) ≡ false → (a ≡ false) × (b ≡ false)
-neither true b h = absurd (false≢true (sym h))
-neither false b h = (refl, h)
-
--- L6 is told of the function at a place, where none before it is
-pub told_at : (all gs : List StoredText) (n : ℕ) (x : List ℕ) → list_any (is_used_outside all) (take n gs) ≡ false → is_used_at all gs n x ≡ true → TellsUse all gs rule.OutsideUse x
-told_at all [] zero x h e = absurd (false≢true e)
-told_at all [] (suc n) x h e = absurd (false≢true e)
-told_at all (g ∷ gs) zero x h e =
-    let it = both (same_name g.subject.name x) (is_used_outside all g) e in
-    inl (sym it.1, (name_decides g.subject.name x).0 it.0)
-told_at all (g ∷ gs) (suc n) x h e =
-    let none = neither (is_used_outside all g) (list_any (is_used_outside all) (take n gs)) h in
-    inr (none.0, told_at all gs n x none.1 e)
-
-pub large_at : (all gs : List StoredText) (n : ℕ) (x : List ℕ) → has_large (take n gs) ≡ false → is_used_at all gs n x ≡ true → IsTold gs rule.OutsideUse x
-large_at all [] zero x h e = absurd (false≢true e)
-large_at all [] (suc n) x h e = absurd (false≢true e)
-large_at all (g ∷ gs) zero x h e = inl (tt, (name_decides g.subject.name x).0 (both (same_name g.subject.name x) (is_used_outside all g) e).0)
-large_at all (g ∷ gs) (suc n) x h e =
-    let none = neither (is_large g) (has_large (take n gs)) h in
-    inr (none.0, large_at all gs n x none.1 e)
-
 unused_is : (all : List StoredText) (g : StoredText) → is_used_outside all g ≡ false → ¬ IsUsedOutside all g
 unused_is all g e = not_from_Decides (is_used_outside all g) (used_decides all g) e
 
@@ -145,27 +115,3 @@ none_is gs n e h =
     let all : take n gs ≡ gs = ap (λ k. take k gs) e ∙ take-length gs in
     not_from_Decides (list_any (is_used_outside gs) gs) (any_decides (is_used_outside gs) (IsUsedOutside gs) (used_decides gs) gs)
     (subst (λ (xs : List StoredText). list_any (is_used_outside gs) xs ≡ false) all h)
-
-whole_at : (all gs : List StoredText) (n : ℕ) (x : List ℕ) → are_whole gs ≡ true → is_used_at all gs n x ≡ true → ⊥
-whole_at all [] zero x w e = false≢true e
-whole_at all [] (suc n) x w e = false≢true e
-whole_at all (g ∷ gs) zero x w e =
-    let here = both (is_whole g) (are_whole gs) w in
-    let own = both g.subject.is_root (is_homeless g.placed.homes) here.0 in
-    let it = both (same_name g.subject.name x) (is_used_outside all g) e in
-    false≢true (sym (homeless_unused all g own.1) ∙ it.1)
-whole_at all (g ∷ gs) (suc n) x w e = whole_at all gs n x (both (is_whole g) (are_whole gs) w).1 e
-
--- of whole functions none is
-pub not_whole : (gs : List StoredText) (n : ℕ) (x : List ℕ) → is_used_at gs gs n x ≡ true → are_whole gs ≢ true
-not_whole gs n x e w = whole_at gs gs n x w e
-
--- ---- a place of memory
-
-pub used_at : {E : Type 0} (all : List StoredText) (ss : List Stored) (s : Stored) (n : ℕ) (x : List ℕ) (r : Result Bool E) → slice_get ss n ≡ Some s
-    → IfOk r (λ yes. yes ≡ is_used_named all x (stored_of s)) → IfOk r (λ yes. yes ≡ is_used_at all (map stored_of ss) n x)
-used_at all ss s n x r at h = IfOk-weaker r (λ yes. yes ≡ is_used_named all x (stored_of s)) (λ yes. yes ≡ is_used_at all (map stored_of ss) n x)
-    (λ yes e. e ∙ sym (ap (passes (is_used_named all x)) (slice_get-map stored_of ss n ∙ ap (option_map stored_of) at))) h
-
-pub none_at : (all : List StoredText) (ss : List Stored) (n : ℕ) (x : List ℕ) → slice_get ss n ≡ None → false ≡ is_used_at all (map stored_of ss) n x
-none_at all ss n x at = sym (ap (passes (is_used_named all x)) (slice_get-map stored_of ss n ∙ ap (option_map stored_of) at))

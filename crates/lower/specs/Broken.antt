@@ -1,5 +1,5 @@
 -- Which rule a function breaks that is computed inside loops: over what its turns need of it, wherever it stands.
-use Rattle.std.specs.Prelude.{ℕ, ◌==◌, nat_lt, ℤ, pos, int_lt, int_le, Bool, true, false, not, ◌&&◌, ◌||◌, if◌then◌else◌, List, [], ◌∷◌, Option, Some, None, Result, Ok, Err}
+use Rattle.std.specs.Prelude.{ℕ, ◌+◌, ◌==◌, nat_lt, nat_le, ℤ, pos, int_lt, int_le, Bool, true, false, not, ◌&&◌, ◌||◌, if◌then◌else◌, List, [], ◌∷◌, length, take, Option, Some, None, Result, Ok, Err}
 use Rattle.std.specs.List.{list_any}
 use Rattle.lin.specs.Forms.{Form}
 use Rattle.lin.specs.Search.{sup_of_difference}
@@ -13,7 +13,7 @@ use Rattle.sched.specs.declared.numbers.Numbers.{Numbers}
 use Rattle.sched.specs.declared.region_rule.RegionRule.{RegionRule}
 use Rattle.sched.specs.declared.region_rule.RegionRule.TheVariants.{OutsideUse, ShortShift, SmallFold, TooLarge, Unbounded}
 use Rattle.sched.specs.Numbers.{loop_numbers, numbers_named}
-use Rattle.sched.specs.Placing.{is_shifted}
+use Rattle.sched.specs.Placing.{SubjectText, is_shifted}
 use Rattle.sched.specs.RegionRules.{region_number}
 use Rattle.sched.specs.Rules.{number_of}
 use Rattle.sched.specs.Standing.{◌>>=◌}
@@ -202,3 +202,33 @@ module _ (a : Algorithm) (all : List StoredText) (inside : List Inside) (missed 
 -- of all of them over these regions, where these are computed inside, and a rule that asks for no region is broken, or none
 abbrev pub first_over : Algorithm → List StoredText → Option (Rule × List ℕ) → List (Option LaidText) → List Inside → Option (RegionRule × List ℕ)
 first_over a gs o ls inside = first_from a gs inside (leaves_others gs o) no_totals gs ls
+
+-- ---- beside the rules that ask for no region
+
+-- so many, and one more where this function is stored
+abbrev pub with_stored : SubjectText → ℕ → ℕ
+with_stored u n = if u.is_stored then n + 1 else n
+
+-- how many stored functions there are up to the one of this name, in the order of declaration
+abbrev pub stored_up_to : List SubjectText → List ℕ → ℕ
+stored_up_to [] x = 0
+stored_up_to (u ∷ us) x = if same_name u.name x then with_stored u 0 else with_stored u (stored_up_to us x)
+
+-- how many of so many are asked: those up to the first function that breaks a rule which asks for no region
+abbrev pub asked_count : List SubjectText → ℕ → Option (Rule × List ℕ) → ℕ
+asked_count us n None = n
+asked_count us n (Some e) = stored_up_to us e.1
+
+-- of that function itself only a rule of a lower number
+abbrev pub unless_later : Rule × List ℕ → RegionRule × List ℕ → Option (RegionRule × List ℕ)
+unless_later o e = if same_name o.1 e.1 && nat_le (number_of o.0) (region_number e.0) then None else Some e
+
+abbrev pub unless_behind : Option (Rule × List ℕ) → Option (RegionRule × List ℕ) → Option (RegionRule × List ℕ)
+unless_behind o None = None
+unless_behind None (Some e) = Some e
+unless_behind (Some o) (Some e) = unless_later o e
+
+-- What is told by regions, function by function in the order of declaration, the lowest number first: the first function that breaks such a rule, up to the one that breaks a
+-- rule which asks for no region, of which itself only one of a lower number counts. These are all functions, of which those are stored.
+abbrev pub first_told : Algorithm → List SubjectText → List StoredText → Option (Rule × List ℕ) → List (Option LaidText) → List Inside → Option (RegionRule × List ℕ)
+first_told a us gs o ls inside = unless_behind o (first_from a gs inside (leaves_others gs o) no_totals (take (asked_count us (length gs) o) gs) ls)

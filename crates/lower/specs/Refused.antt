@@ -10,6 +10,8 @@ use Rattle.sched.specs.declared.error.Rule.{Rule}
 use Rattle.sched.specs.declared.error.SchedError.{SchedError}
 use Rattle.sched.specs.declared.error.SchedError.TheVariants as refusal
 use Rattle.sched.specs.Legal.{IsFollowed}
+use Rattle.sched.specs.Placing.{SubjectText}
+use Rattle.sched.specs.Subjects.{subject_said}
 use Rattle.lower.specs.declared.lowering.Lowered.{Lowered}
 use Rattle.sched.specs.declared.region_rule.RegionRule.{RegionRule}
 use Rattle.sched.specs.declared.region_rule.RegionRule.TheVariants as rule
@@ -17,10 +19,10 @@ use Rattle.lower.specs.Stored.{StoredText, has_large, stored_functions}
 use Rattle.lower.specs.Large.{IsToldOf}
 use Rattle.lower.specs.Faults.{are_whole, region_fault}
 use Rattle.lower.specs.Planned.{unplanned}
-use Rattle.lower.specs.Uses.{AreUsedInside, is_used_at}
+use Rattle.lower.specs.Uses.{AreUsedInside}
 use Rattle.lower.specs.Groups.{HasGroupsFrom, AreAllFoundIf, Come, placed_in, rooted, rounds}
 use Rattle.lower.specs.Homes.{AreAllAtHome}
-use Rattle.lower.specs.Broken.{Inside, first_over}
+use Rattle.lower.specs.Broken.{Inside, first_told}
 use Rattle.lower.specs.Regions.{LaidText, laid_functions}
 use Rattle.sched.specs.Legal as sched
 use Rattle.sched.specs.declared.skeleton.SkeletonError.{SkeletonError}
@@ -43,30 +45,39 @@ KeepsRegions a gs = are_whole gs ≡ true → (region_fault a gs ≡ None) × (u
 abbrev pub IsFirst : Algorithm → List StoredText → RegionRule → List ℕ → Type 0
 IsFirst a gs r x = are_whole gs ≡ true → (region_fault a gs ≡ Some (r, x)) ⊎ ((r ≡ rule.Unbounded) × (region_fault a gs ≡ None) × (unplanned a gs ≡ Some x))
 
--- but for L6, over these regions it is the first function that breaks a rule, and the rule of the lowest number; or none does, and L12 is told, since the lines of a group can't be
--- written
-abbrev pub IsFirstOver : Algorithm → List StoredText → Option (Rule × List ℕ) → List (Option LaidText) → List Inside → RegionRule → List ℕ → Type 0
-IsFirstOver a gs o ls inside rule.OutsideUse x = Unit {0}
-IsFirstOver a gs o ls inside rule.ShortShift x = first_over a gs o ls inside ≡ Some (rule.ShortShift, x)
-IsFirstOver a gs o ls inside rule.SmallFold x = first_over a gs o ls inside ≡ Some (rule.SmallFold, x)
-IsFirstOver a gs o ls inside rule.TooLarge x = first_over a gs o ls inside ≡ Some (rule.TooLarge, x)
-IsFirstOver a gs o ls inside rule.TooMuch x = first_over a gs o ls inside ≡ Some (rule.TooMuch, x)
-IsFirstOver a gs o ls inside rule.Unbounded x = (first_over a gs o ls inside ≡ Some (rule.Unbounded, x)) ⊎ ((o ≡ None) × (first_over a gs o ls inside ≡ None))
+-- over these regions, where these are computed inside, it is what is told, function by function; or none breaks a rule, and L12 is told, since the lines of a group can't be written
+abbrev pub IsFirstOver : Algorithm → List SubjectText → List StoredText → Option (Rule × List ℕ) → List (Option LaidText) → List Inside → RegionRule → List ℕ → Type 0
+IsFirstOver a us gs o ls inside r x =
+    (first_told a us gs o ls inside ≡ Some (r, x)) ⊎ ((r ≡ rule.Unbounded) × (o ≡ None) × (first_told a us gs o ls inside ≡ None))
 
--- over the regions to which so many rounds come from these ones, where these functions are computed inside, unless of one a bound is missing
-pub record IsFirstFrom (a : Algorithm) (gs : List StoredText) (n : ℕ) (first : List (Option LaidText)) (o : Option (Rule × List ℕ)) (r : RegionRule) (x : List ℕ) : Type 0 where
+-- no rule by regions is told before the one that asks for none
+abbrev pub IsNoneOver : Algorithm → List SubjectText → List StoredText → Option (Rule × List ℕ) → List (Option LaidText) → List Inside → Type 0
+IsNoneOver a us gs o ls inside = first_told a us gs o ls inside ≡ None
+
+-- this is said of the regions to which so many rounds come from these ones, where these functions are computed inside, unless of one a bound is missing
+pub record IsAskedFrom (a : Algorithm) (gs : List StoredText) (n : ℕ) (first : List (Option LaidText)) (P : List (Option LaidText) → List Inside → Type 0) : Type 0 where
   pub regions : List (Option LaidText)
   pub inside : List Inside
   pub homes : AreAllAtHome (rooted true gs regions) (rooted false gs regions) (map placed_in inside)
   pub found : AreAllFoundIf a (length (rooted false gs regions)) (rooted true gs regions) (rooted false gs regions) inside
   pub come : Come a gs n first regions inside
-  pub over : IsFirstOver a gs o regions inside r x
+  pub over : P regions inside
+
+abbrev pub IsFirstFrom : Algorithm → List SubjectText → List StoredText → ℕ → List (Option LaidText) → Option (Rule × List ℕ) → RegionRule → List ℕ → Type 0
+IsFirstFrom a us gs n first o r x = IsAskedFrom a gs n first (λ ls inside. IsFirstOver a us gs o ls inside r x)
+
+abbrev pub IsNoneFrom : Algorithm → List SubjectText → List StoredText → ℕ → List (Option LaidText) → Option (Rule × List ℕ) → Type 0
+IsNoneFrom a us gs n first o = IsAskedFrom a gs n first (IsNoneOver a us gs o)
+
+-- all functions of an algorithm, as a schedule has to know them
+abbrev pub subjects_of : Algorithm → Schedule → List SubjectText
+subjects_of a s = map (subject_said a s) a.functions
 
 -- where this is the first rule that asks for no region and is broken, or none is
 pub record IsFirstIn (a : Algorithm) (s : Schedule) (r : RegionRule) (x : List ℕ) : Type 0 where
   pub fault : Option (Rule × List ℕ)
   pub is : sched.IsFault a s fault
-  pub first : IsFirstFrom a (stored_functions a s) (rounds (stored_functions a s)) (laid_functions a (stored_functions a s)) fault r x
+  pub first : IsFirstFrom a (subjects_of a s) (stored_functions a s) (rounds (stored_functions a s)) (laid_functions a (stored_functions a s)) fault r x
 
 abbrev pub AreRegionsKept : Algorithm → Schedule → Type 0
 AreRegionsKept a s = KeepsRegions a (stored_functions a s)
@@ -92,20 +103,20 @@ IsThat o (refusal.Broken r x) = o ≡ Some (r, x)
 IsThat o e = ⊥
 
 -- a plan comes only where no such rule is broken, no definition passes the limits, no rule is broken by a region, and no function is used outside of
--- its loop; of it this is said, and that of a rule that asks for a region
-abbrev pub AnswersBy : Algorithm → List StoredText → (Lowered → Type 0) → (RegionRule → List ℕ → Type 0) → Option (Rule × List ℕ) → Result Lowered LowerError → Type 0
-AnswersBy a gs P Q o (Ok l) = (o ≡ None) × (has_large gs ≡ false) × KeepsRegions a gs × P l × AreUsedInside gs
-AnswersBy a gs P Q o (Err error.Memory) = Unit {0}
-AnswersBy a gs P Q o (Err (error.Schedule e)) = IsThat o e
-AnswersBy a gs P Q o (Err (error.Broken r x)) = IsToldOf gs r x × IsFirst a gs r x × Q r x
+-- its loop; of it this is said, that of a rule that asks for a region, and this where one is told that asks for none
+abbrev pub AnswersBy : Algorithm → List StoredText → (Lowered → Type 0) → (RegionRule → List ℕ → Type 0) → Type 0 → Option (Rule × List ℕ) → Result Lowered LowerError → Type 0
+AnswersBy a gs P Q N o (Ok l) = (o ≡ None) × (has_large gs ≡ false) × KeepsRegions a gs × P l × AreUsedInside gs
+AnswersBy a gs P Q N o (Err error.Memory) = Unit {0}
+AnswersBy a gs P Q N o (Err (error.Schedule e)) = IsThat o e × N
+AnswersBy a gs P Q N o (Err (error.Broken r x)) = IsToldOf gs r x × IsFirst a gs r x × Q r x
 
 -- it has the groups over the regions to which so many rounds come from these ones
-abbrev pub AnswersFrom : Algorithm → List StoredText → ℕ → List (Option LaidText) → Option (Rule × List ℕ) → Result Lowered LowerError → Type 0
-AnswersFrom a gs n first o r = AnswersBy a gs (HasGroupsFrom a gs n first) (IsFirstFrom a gs n first o) o r
+abbrev pub AnswersFrom : Algorithm → List SubjectText → List StoredText → ℕ → List (Option LaidText) → Option (Rule × List ℕ) → Result Lowered LowerError → Type 0
+AnswersFrom a us gs n first o r = AnswersBy a gs (HasGroupsFrom a gs n first) (IsFirstFrom a us gs n first o) (IsNoneFrom a us gs n first o) o r
 
 -- as many rounds as there may be, from the regions that are needed of the loops over whole functions
-abbrev pub Answers : Algorithm → List StoredText → Option (Rule × List ℕ) → Result Lowered LowerError → Type 0
-Answers a gs o r = AnswersFrom a gs (rounds gs) (laid_functions a gs) o r
+abbrev pub Answers : Algorithm → List SubjectText → List StoredText → Option (Rule × List ℕ) → Result Lowered LowerError → Type 0
+Answers a us gs o r = AnswersFrom a us gs (rounds gs) (laid_functions a gs) o r
 
 -- no plan was made, and no rule is told but that bounds are missing
 abbrev pub IsUnplanned : LowerError → Type 0
@@ -113,13 +124,6 @@ IsUnplanned error.Memory = Unit {0}
 IsUnplanned (error.Schedule e) = ⊥
 IsUnplanned (error.Broken rule.Unbounded x) = Unit {0}
 IsUnplanned (error.Broken r x) = ⊥
-
--- it is said of a rule that is told behind the last directive, or of a use of the function at this place outside of its loop
-abbrev pub IsPlaced : List StoredText → ℕ → Option (Rule × List ℕ) → LowerError → Type 0
-IsPlaced gs n o error.Memory = ⊥
-IsPlaced gs n o (error.Schedule e) = IsThat o e
-IsPlaced gs n o (error.Broken rule.OutsideUse x) = is_used_at gs gs n x ≡ true
-IsPlaced gs n o (error.Broken r x) = ⊥
 
 abbrev pub stop_of_form : LinError → Stop
 stop_of_form form.Memory = stop.Memory

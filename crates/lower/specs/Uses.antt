@@ -144,14 +144,6 @@ uses_outside gs x v u = not (same_name u.subject.name x) && passes (list_any (is
 abbrev pub is_used_outside : List StoredText → StoredText → Bool
 is_used_outside gs g = passes (λ v. list_any (uses_outside gs g.subject.name v) gs) (first_home g.placed.homes)
 
--- it has this name, and is used so
-abbrev pub is_used_named : List StoredText → List ℕ → StoredText → Bool
-is_used_named all x g = same_name g.subject.name x && is_used_outside all g
-
--- the function at this place is such a one
-abbrev pub is_used_at : List StoredText → List StoredText → ℕ → List ℕ → Bool
-is_used_at all gs n x = passes (is_used_named all x) (slice_get gs n)
-
 -- ---- what is told
 
 -- L6 of a use

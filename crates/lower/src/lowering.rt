@@ -10,6 +10,7 @@ ghost use Rattle.sched.specs.Legal.{IsLegal};
 ghost use Rattle.lower.specs.declared.error.LowerError.TheVariants.{Broken};
 ghost use Rattle.lower.specs.Stored.{stored_of, stored_of_all};
 ghost use Rattle.lower.specs.Regions.{laid_of, laid_functions};
+ghost use Rattle.lower.specs.Broken as broken;
 ghost use Rattle.lower.specs.Faults.{are_whole};
 ghost use Rattle.lower.specs.Heads.{IsDeclared, IsHeadOf};
 ghost use Rattle.lower.specs.Making.{GroupMade};
@@ -17,7 +18,7 @@ ghost use Rattle.lower.specs.Groups.{AreAlone, AreBodies, AreGroupsMade, AreMade
 ghost use Rattle.lower.specs.Groups.{AreBodiesBy, AreFoundOf, AreKnown, AreOverRegions, GroupBy, GroupsBy, IsKeptPlan, IsKnown, all_rooted, inside_at, placed_of as inners_of, rounds};
 ghost use Rattle.lower.specs.Homes.{AreAllAtHome};
 ghost use Rattle.lower.specs.Planned.{TellsOf, first_unplanned, unplanned_at, unplanned_over};
-ghost use Rattle.lower.specs.Refused.{Answers, AnswersBy, AnswersFrom, AreSmall, AreRegionsKept, AreUsesInside, IsFirstOver, IsRefused, IsUnplanned, IsPlaced};
+ghost use Rattle.lower.specs.Refused.{Answers, AnswersBy, AnswersFrom, AreSmall, AreRegionsKept, AreUsesInside, IsFirstOver, IsNoneOver, IsRefused, IsUnplanned};
 
 use crate::definitions::{Stored, stored_functions};
 use crate::error::{LowerError, Stop};
@@ -27,19 +28,17 @@ use crate::group::{Beginning, Made, group_of};
 use crate::legality::first_fault;
 use crate::parties::{Party, asked_regions, laid_by_turns, parties_of, roots_of, unlaid};
 use crate::regions::{Laid, laid_functions};
-use crate::uses::{are_whole, uses_outside};
+use crate::uses::are_whole;
+use algo::scoping::same_name;
 use algo::{Algo, Port};
 use plan::certificate::{Cert, Own};
 use plan::{Declaration, Group, Plan};
-use sched::{Placement, RegionRule, Rule, Sched, SchedError, followed};
+use sched::{Placement, RegionRule, Rule, Sched, SchedError, Subject, followed};
 use std::alloc::{AllocError, Global};
 use tree::token::Name;
 
 /// The line of the first group of a plan.
 const FIRST_GROUP: u64 = 4;
-
-/// The number of the rule that a use outside of a function's loop breaks.
-const OUTSIDE_USE: u32 = 6;
 
 /// A plan and its certificate.
 #[derive(Drop)]
@@ -203,27 +202,42 @@ fn groups_of<'a>(
     Ok((groups, certificate))
 }
 
-// How many stored functions stand before the one of this name, in the order of declaration.
-fn stored_before(placement: &Placement, name: &Name) -> usize {
-    let mut count: usize = 0;
-    for subject in &placement.subjects {
-        if subject.name.as_str() == name.as_str() {
-            return count;
-        }
-        if subject.is_stored {
-            count = count.saturating_add(1);
-        }
+// One more, where the function is stored.
+fn with_stored(subject: &Subject, others: usize) -> Result<usize, AllocError>
+    ensures { IfOk result (λ count. count ≡ broken.with_stored (subject_of subject.now) others) }
+{
+    if !subject.is_stored {
+        return Ok(others);
     }
-    count
+    let Some(count) = others.checked_add(1) else {
+        return Err(AllocError);
+    };
+    Ok(count)
 }
 
-// How many stored functions are asked what they break: those before the first that breaks a rule which asks for no region.
-fn asked(placement: &Placement, stored: usize) -> usize
-    ensures { placement.now.fault ≡ None → result ≡ stored }
+// How many stored functions there are up to the one of this name, in the order of declaration.
+fn stored_up_to(subjects: &[Subject], name: &Name) -> Result<usize, AllocError>
+    ensures { IfOk result (λ count. count ≡ broken.stored_up_to (map subject_of subjects.now) name.now) }
+{
+    match subjects {
+        [] => Ok(0),
+        [subject, rest @ ..] => {
+            if same_name(subject.name.as_str(), name.as_str()) {
+                with_stored(subject, 0)
+            } else {
+                with_stored(subject, stored_up_to(rest, name)?)
+            }
+        }
+    }
+}
+
+// How many stored functions are asked what they break: those up to the first that breaks a rule which asks for no region.
+fn asked_count(placement: &Placement, stored: usize) -> Result<usize, AllocError>
+    ensures { IfOk result (λ count. count ≡ broken.asked_count (map subject_of placement.now.subjects.items) stored placement.now.fault) }
 {
     match &placement.fault {
-        Some((_, name)) => stored_before(placement, name),
-        None => stored,
+        Some((_, name)) => stored_up_to(&placement.subjects, name),
+        None => Ok(stored),
     }
 }
 
@@ -325,20 +339,23 @@ pub fn laid_all(
     Ok(laid_by_loops(alloc, algo, stored, laid)?)
 }
 
-// What is told of a placement that breaks a rule behind the last directive. Where its function is stored, it is the one at this place.
-fn broken(
-    alloc: Global,
-    stored: &[Stored<'_>],
-    place: usize,
-    rule: Rule,
-    name: Name,
-) -> Result<LowerError, AllocError>
-    ensures { IfOk result (IsPlaced (map stored_of stored.now) place (Some (rule, name))) }
+// What a function breaks by its region, unless a rule of no higher number that asks for no region is broken by the same one.
+fn unless_behind(
+    fault: &Option<(Rule, Name)>,
+    found: &Option<(RegionRule, Name)>,
+) -> Option<(RegionRule, Name)>
+    ensures { result ≡ broken.unless_behind fault.now found.now }
 {
-    if rule.number() > OUTSIDE_USE && uses_outside(alloc, stored, place, &name)? {
-        return Ok(LowerError::Broken(RegionRule::OutsideUse, name));
+    let Some((rule, name)) = found else {
+        return None;
+    };
+    let Some((first, owner)) = fault else {
+        return Some((*rule, *name));
+    };
+    if same_name(owner.as_str(), name.as_str()) && first.number() <= rule.number() {
+        return None;
     }
-    Ok(LowerError::Schedule(SchedError::Broken(rule, name)))
+    Some((*rule, *name))
 }
 
 // What is told of a function that breaks a rule by its region.
@@ -369,16 +386,20 @@ fn plan_laid<'a>(
         (rooted false (map stored_of stored.now) (map (option_map laid_of) laid.now)) parties.now }
     ensures { AnswersBy (algorithm_of algo.now) (map stored_of stored.now)
         (IsKeptPlan (algorithm_of algo.now) (map stored_of stored.now) (map (option_map laid_of) laid.now) parties.now)
-        (IsFirstOver (algorithm_of algo.now) (map stored_of stored.now) placement.now.fault (map (option_map laid_of) laid.now) (map inside_at parties.now))
+        (IsFirstOver (algorithm_of algo.now) (map subject_of placement.now.subjects.items) (map stored_of stored.now) placement.now.fault
+        (map (option_map laid_of) laid.now) (map inside_at parties.now))
+        (IsNoneOver (algorithm_of algo.now) (map subject_of placement.now.subjects.items) (map stored_of stored.now) placement.now.fault
+        (map (option_map laid_of) laid.now) (map inside_at parties.now))
         placement.now.fault result }
 {
-    let count = asked(placement, stored.len());
+    let count = asked_count(placement, stored.len())?;
     let fault = placement.fault;
-    if let Some(found) = first_fault(alloc, algo, stored, laid, parties, count, fault)? {
+    let first = first_fault(alloc, algo, stored, laid, parties, count, fault)?;
+    if let Some(found) = unless_behind(&placement.fault, &first) {
         return Err(refusal(found));
     }
     if let Some((rule, name)) = placement.fault {
-        return Err(broken(alloc, stored, count, rule, name)?);
+        return Err(LowerError::Schedule(SchedError::Broken(rule, name)));
     }
     planned(alloc, algo, stored, laid, parties)
 }
@@ -397,7 +418,8 @@ fn plan_by_turns(
         map (option_map laid_of) laid.now ≡ laid_functions (algorithm_of algo.now) (map stored_of stored.now) }
     requires once { are_whole (map stored_of stored.now) ≡ true → rounds ≡ 0 }
     requires over { AreOverRegions (map stored_of stored.now) (map (option_map laid_of) laid.now) }
-    ensures { AnswersFrom (algorithm_of algo.now) (map stored_of stored.now) rounds (map (option_map laid_of) laid.now) placement.now.fault result }
+    ensures { AnswersFrom (algorithm_of algo.now) (map subject_of placement.now.subjects.items) (map stored_of stored.now) rounds
+        (map (option_map laid_of) laid.now) placement.now.fault result }
 {
     let parties = parties_of(alloc, algo, &*stored, &*laid)?;
     let Some(left) = rounds.checked_sub(1) else {
@@ -435,7 +457,7 @@ fn plan_stored(
     placement: &Placement,
     stored: &[Stored<'_>],
 ) -> Result<Lowered, LowerError>
-    ensures { Answers (algorithm_of algo.now) (map stored_of stored.now) placement.now.fault result }
+    ensures { Answers (algorithm_of algo.now) (map subject_of placement.now.subjects.items) (map stored_of stored.now) placement.now.fault result }
 {
     let laid = laid_functions(alloc, algo, stored)?;
     plan_by_turns(alloc, algo, placement, stored, &laid, rounds_of(stored))
@@ -444,7 +466,7 @@ fn plan_stored(
 // The plan of a placement.
 fn plan_placed(alloc: Global, algo: &Algo, placement: &Placement) -> Result<Lowered, LowerError>
     requires { length placement.now.subjects.items ≡ length (algorithm_of algo.now).functions }
-    ensures { Answers (algorithm_of algo.now)
+    ensures { Answers (algorithm_of algo.now) (map subject_of placement.now.subjects.items)
         (stored_of_all (algorithm_of algo.now) (map subject_of placement.now.subjects.items) (map placed_of placement.now.functions.items))
         placement.now.fault result }
 {

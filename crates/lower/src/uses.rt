@@ -404,38 +404,6 @@ pub(crate) fn has_outside_use(
     is_used_outside(alloc, stored, one)
 }
 
-// Whether it has this name and is used so.
-fn is_used_named(
-    alloc: Global,
-    stored: &[Stored<'_>],
-    name: &Name,
-    one: &Stored<'_>,
-) -> Result<bool, AllocError>
-    ensures { IfOk result (λ yes. yes ≡ uses.is_used_named (map stored_of stored.now) name.now (stored_of one.now)) }
-{
-    if same_name(one.subject.name.as_str(), name.as_str()) {
-        is_used_outside(alloc, stored, one)
-    } else {
-        Ok(false)
-    }
-}
-
-/// The same of the function at this place, where it has this name.
-#[tactic(auto, using(crate::proofs::Outsides::used_at, crate::proofs::Outsides::none_at))]
-pub(crate) fn uses_outside(
-    alloc: Global,
-    stored: &[Stored<'_>],
-    place: usize,
-    name: &Name,
-) -> Result<bool, AllocError>
-    ensures { IfOk result (λ yes. yes ≡ uses.is_used_at (map stored_of stored.now) (map stored_of stored.now) place name.now) }
-{
-    match stored.get(place) {
-        None => Ok(false),
-        Some(one) => is_used_named(alloc, stored, name, one),
-    }
-}
-
 // ---- whole functions
 
 fn is_homeless(homes: &[Home]) -> bool

@@ -14,7 +14,7 @@ returns-clause-small c =
     let found = c.in_ok-placement.ensures in
     let stored = stored_of_all a (map subject_of p.subjects.items) (map placed_of p.functions.items) in
     let same : stored ≡ stored_functions a s = (λ i. stored_of_all a (found.subjects i) (found.loops i)) in
-    (stored_told a s p.fault stored found.fault same c.plan_placed.result c.plan_placed.ensures).small
+    (stored_told a s p.fault (map subject_of p.subjects.items) stored found.fault found.subjects same c.plan_placed.result c.plan_placed.ensures).small
 
 pub returns-clause-regions : goal.returns-clause-regions
 returns-clause-regions c =
@@ -24,7 +24,7 @@ returns-clause-regions c =
     let found = c.in_ok-placement.ensures in
     let stored = stored_of_all a (map subject_of p.subjects.items) (map placed_of p.functions.items) in
     let same : stored ≡ stored_functions a s = (λ i. stored_of_all a (found.subjects i) (found.loops i)) in
-    (stored_told a s p.fault stored found.fault same c.plan_placed.result c.plan_placed.ensures).regions
+    (stored_told a s p.fault (map subject_of p.subjects.items) stored found.fault found.subjects same c.plan_placed.result c.plan_placed.ensures).regions
 
 pub returns-clause-uses : goal.returns-clause-uses
 returns-clause-uses c =
@@ -34,7 +34,7 @@ returns-clause-uses c =
     let found = c.in_ok-placement.ensures in
     let stored = stored_of_all a (map subject_of p.subjects.items) (map placed_of p.functions.items) in
     let same : stored ≡ stored_functions a s = (λ i. stored_of_all a (found.subjects i) (found.loops i)) in
-    (stored_told a s p.fault stored found.fault same c.plan_placed.result c.plan_placed.ensures).uses
+    (stored_told a s p.fault (map subject_of p.subjects.items) stored found.fault found.subjects same c.plan_placed.result c.plan_placed.ensures).uses
 
 pub returns-clause-groups : goal.returns-clause-groups
 returns-clause-groups c =
@@ -44,7 +44,7 @@ returns-clause-groups c =
     let found = c.in_ok-placement.ensures in
     let stored = stored_of_all a (map subject_of p.subjects.items) (map placed_of p.functions.items) in
     let same : stored ≡ stored_functions a s = (λ i. stored_of_all a (found.subjects i) (found.loops i)) in
-    (stored_told a s p.fault stored found.fault same c.plan_placed.result c.plan_placed.ensures).groups
+    (stored_told a s p.fault (map subject_of p.subjects.items) stored found.fault found.subjects same c.plan_placed.result c.plan_placed.ensures).groups
 
 pub returns-clause-legal : goal.returns-clause-legal
 returns-clause-legal c =
@@ -54,7 +54,7 @@ returns-clause-legal c =
     let found = c.in_ok-placement.ensures in
     let stored = stored_of_all a (map subject_of p.subjects.items) (map placed_of p.functions.items) in
     let same : stored ≡ stored_functions a s = (λ i. stored_of_all a (found.subjects i) (found.loops i)) in
-    (stored_told a s p.fault stored found.fault same c.plan_placed.result c.plan_placed.ensures).legal
+    (stored_told a s p.fault (map subject_of p.subjects.items) stored found.fault found.subjects same c.plan_placed.result c.plan_placed.ensures).legal
 
 pub returns-clause-refused : goal.returns-clause-refused
 returns-clause-refused c =
@@ -64,4 +64,4 @@ returns-clause-refused c =
     let found = c.in_ok-placement.ensures in
     let stored = stored_of_all a (map subject_of p.subjects.items) (map placed_of p.functions.items) in
     let same : stored ≡ stored_functions a s = (λ i. stored_of_all a (found.subjects i) (found.loops i)) in
-    (stored_told a s p.fault stored found.fault same c.plan_placed.result c.plan_placed.ensures).refused
+    (stored_told a s p.fault (map subject_of p.subjects.items) stored found.fault found.subjects same c.plan_placed.result c.plan_placed.ensures).refused
