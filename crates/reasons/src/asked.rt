@@ -18,13 +18,29 @@ use lower::spans::{Around, head_scope, interval, variables_of};
 use sched::{Extent, Split};
 use std::alloc::{AllocError, Global};
 use tree::Expr;
-use tree::token::Name;
+use tree::token::{Name, Span};
 
 /// How often it is asked again what a function's own updates need, and once more.
 const MOST_ROUNDS: usize = 5;
 
 /// The largest factor of a form.
 const LARGEST_FACTOR: u64 = 1 << 20;
+
+// Whether a function has no region, and calls the one of this name.
+fn is_missing_reader(
+    alloc: Global,
+    user: &Stored<'_>,
+    found: &Option<Laid>,
+    callee: &str,
+) -> Result<bool, AllocError> {
+    if found.is_some() {
+        return Ok(false);
+    }
+    match &user.formulas {
+        Some(formulas) => formulas_call(alloc, formulas, callee),
+        None => Ok(false),
+    }
+}
 
 // The next function without a region that calls the one of this number.
 fn missing_reader(
@@ -37,13 +53,15 @@ fn missing_reader(
         return Ok(None);
     };
     let callee = one.subject.name.as_str();
-    for (other, (user, found)) in stored.iter().zip(laid.iter()).enumerate() {
-        if other > number && found.is_none() {
-            if let Some(formulas) = &user.formulas {
-                if formulas_call(alloc, formulas, callee)? {
-                    return Ok(Some(other));
-                }
-            }
+    for other in number.saturating_add(1)..stored.len() {
+        let Some(user) = stored.get(other) else {
+            return Ok(None);
+        };
+        let Some(found) = laid.get(other) else {
+            return Ok(None);
+        };
+        if is_missing_reader(alloc, user, found, callee)? {
+            return Ok(Some(other));
         }
     }
     Ok(None)
@@ -85,6 +103,17 @@ fn is_few_around(
     }
 }
 
+// What stands around the pure definition of a function, over its whole region.
+fn around_whole<'a>(alloc: Global, caller: &Root<'a>) -> Result<Around<'a>, AllocError> {
+    let coordinates = whole_region(alloc, caller.laid)?;
+    let variables = variables_of(alloc, caller.stored.function, 0)?;
+    Ok(Around {
+        scope: Scope::new(alloc),
+        variables,
+        coordinates,
+    })
+}
+
 // Whether an index of the pure definition has few enough numbers over the whole region of its caller.
 fn is_few_over_region(
     alloc: Global,
@@ -92,11 +121,7 @@ fn is_few_over_region(
     caller: &Root<'_>,
     index: &Expr,
 ) -> Result<bool, AllocError> {
-    let around = Around {
-        scope: Scope::new(alloc),
-        variables: variables_of(alloc, caller.stored.function, 0)?,
-        coordinates: whole_region(alloc, caller.laid)?,
-    };
+    let around = around_whole(alloc, caller)?;
     is_few_around(alloc, algo, &around, index)
 }
 
@@ -194,6 +219,23 @@ fn first_unbounded(alloc: Global, readings: &[Reading<'_>]) -> Result<Option<usi
     Ok(None)
 }
 
+// The chain of the readers of a function that reads at an index.
+fn chain_behind<'a>(
+    alloc: Global,
+    algo: &Algo,
+    stored: &'a [Stored<'a>],
+    laid: &'a [Option<Laid>],
+    reading: &Reading<'_>,
+) -> Result<Vec<Link>, Stop> {
+    let Some(caller) = reading.number else {
+        return Ok(Vec::new(alloc));
+    };
+    match reading.along {
+        Some(along) => chain_of(alloc, algo, stored, laid, caller, along),
+        None => Ok(Vec::new(alloc)),
+    }
+}
+
 // That the first index without bounds has none, where there is one.
 fn unbounded<'a>(
     alloc: Global,
@@ -213,10 +255,9 @@ fn unbounded<'a>(
         Some(number) => root_numbered(stored, laid, number),
         None => None,
     };
+    let chain = chain_behind(alloc, algo, stored, laid, reading)?;
     let mut reason = unbounded_at(alloc, algo, caller.as_ref(), function, reading)?;
-    if let (Some(number), Some(along)) = (reading.number, reading.along) {
-        reason.chain = chain_of(alloc, algo, stored, laid, number, along)?;
-    }
+    reason.chain = chain;
     Ok(Some(reason))
 }
 
@@ -244,48 +285,29 @@ fn place_at(
 fn add_place(
     readings: &[Reading<'_>],
     place: Option<usize>,
-    reason: &mut Reason,
+    places: &mut Vec<Span>,
 ) -> Result<(), AllocError> {
     if let Some(place) = place {
         if let Some(reading) = readings.get(place) {
-            reason.places.push(reading.index.span())?;
+            places.push(reading.index.span())?;
         }
     }
     Ok(())
 }
 
-// The chain of the readers of a function that reads at an index.
-fn chain_behind<'a>(
-    alloc: Global,
-    algo: &Algo,
-    stored: &'a [Stored<'a>],
-    laid: &'a [Option<Laid>],
-    reading: &Reading<'_>,
-) -> Result<Vec<Link>, Stop> {
-    let Some(caller) = reading.number else {
-        return Ok(Vec::new(alloc));
-    };
-    match reading.along {
-        Some(along) => chain_of(alloc, algo, stored, laid, caller, along),
-        None => Ok(Vec::new(alloc)),
-    }
-}
-
-// The reason, at the first and the last place, with this chain.
-fn wide_at(
+// The places in the text of the first and the last of these indices; one where they are the same.
+fn places_of(
     alloc: Global,
     readings: &[Reading<'_>],
-    cause: BoundCause,
-    ends: (Option<usize>, Option<usize>),
-    chain: Vec<Link>,
-) -> Result<Reason, AllocError> {
-    let mut reason = Cause::Bound(cause).alone(alloc);
-    reason.chain = chain;
-    add_place(readings, ends.0, &mut reason)?;
-    if ends.0 != ends.1 {
-        add_place(readings, ends.1, &mut reason)?;
+    first: Option<usize>,
+    last: Option<usize>,
+) -> Result<Vec<Span>, AllocError> {
+    let mut places = Vec::new(alloc);
+    add_place(readings, first, &mut places)?;
+    if first != last {
+        add_place(readings, last, &mut places)?;
     }
-    Ok(reason)
+    Ok(places)
 }
 
 // That too many numbers of a function are asked for, by which indices.
@@ -317,8 +339,13 @@ fn wide_reason<'a>(
         high: ends.high,
         is_set: reading.is_set,
     };
+    let places = places_of(alloc, readings, first, last)?;
     let chain = chain_behind(alloc, algo, stored, laid, reading)?;
-    Ok(Some(wide_at(alloc, readings, cause, (first, last), chain)?))
+    Ok(Some(Reason {
+        cause: Cause::Bound(cause),
+        places,
+        chain,
+    }))
 }
 
 // Adds what the indices ask for.
@@ -396,7 +423,7 @@ fn extent_between(ends: Ends) -> Extent {
 }
 
 // That the splits of a function alone have a form past the limits.
-fn split_reason(alloc: Global, one: &Stored<'_>) -> Result<Option<Reason>, AllocError> {
+fn split_reason(alloc: Global, one: &Stored<'_>) -> Result<Option<Reason>, Stop> {
     match split_flaw(alloc, one)? {
         Some((variable, excess)) => {
             let cause = BoundCause::Splits {
@@ -471,7 +498,7 @@ fn own_reason<'a>(
     stored: &'a [Stored<'a>],
     laid: &'a [Option<Laid>],
     number: usize,
-    reach: Vec<Option<Ends>>,
+    reach: &mut Vec<Option<Ends>>,
 ) -> Result<Option<Reason>, Stop> {
     let Some(one) = stored.get(number) else {
         return Ok(None);
@@ -479,19 +506,44 @@ fn own_reason<'a>(
     let Some(formulas) = &one.formulas else {
         return Ok(None);
     };
-    let mut reach = reach;
     for _round in 0..MOST_ROUNDS {
-        let Some(over) = laid_over(alloc, one, formulas, &reach)? else {
-            return Ok(split_reason(alloc, one)?);
+        let Some(over) = laid_over(alloc, one, formulas, reach)? else {
+            return split_reason(alloc, one);
         };
         let found = reason_over(
-            alloc, algo, stored, laid, number, one, formulas, over, &mut reach,
+            alloc, algo, stored, laid, number, one, formulas, over, reach,
         )?;
         if let Some(reason) = found {
             return Ok(Some(reason));
         }
     }
     Ok(None)
+}
+
+// What is asked for of a function that no other reads: of the output its extents.
+fn unread(alloc: Global, algo: &Algo, one: &Stored<'_>) -> Result<Vec<Option<Ends>>, AllocError> {
+    let mut reach = unreached(alloc, one.subject.variables.len())?;
+    if one.subject.is_output {
+        add_extents(algo, &mut reach)?;
+    }
+    Ok(reach)
+}
+
+// Why no region comes of what these indices ask for, or of what the function's own updates then do.
+fn asked_or_own<'a>(
+    alloc: Global,
+    algo: &Algo,
+    stored: &'a [Stored<'a>],
+    laid: &'a [Option<Laid>],
+    number: usize,
+    one: &Stored<'_>,
+    readings: &[Reading<'_>],
+    reach: &mut Vec<Option<Ends>>,
+) -> Result<Option<Reason>, Stop> {
+    match asked_reason(alloc, algo, stored, laid, one, readings, reach)? {
+        Some(reason) => Ok(Some(reason)),
+        None => own_reason(alloc, algo, stored, laid, number, reach),
+    }
 }
 
 // Why a function which is called at these indices has no region.
@@ -506,15 +558,8 @@ pub(crate) fn read_reason<'a>(
     let Some(one) = stored.get(number) else {
         return Ok(None);
     };
-    let mut reach = unreached(alloc, one.subject.variables.len())?;
-    if one.subject.is_output {
-        add_extents(algo, &mut reach)?;
-    }
-    let found = asked_reason(alloc, algo, stored, laid, one, readings, &mut reach)?;
-    if found.is_some() {
-        return Ok(found);
-    }
-    own_reason(alloc, algo, stored, laid, number, reach)
+    let mut reach = unread(alloc, algo, one)?;
+    asked_or_own(alloc, algo, stored, laid, number, one, readings, &mut reach)
 }
 
 // Why a function of which all readers have regions has none.

@@ -168,8 +168,17 @@ fn flaw_of(place: Span, op: Op, left: &Span1, right: &Span1) -> Flaw {
 
 // ---- parts of an index
 
-// None where a form leaves its limits.
-fn span_of(
+/// Whether a form passes its limits.
+pub(crate) fn passes_limits<T: Drop>(made: Result<T, Stop>) -> Result<bool, AllocError> {
+    match made {
+        Ok(_) => Ok(false),
+        Err(Stop::Limit) => Ok(true),
+        Err(Stop::Memory) => Err(AllocError),
+    }
+}
+
+/// What an expression stays within; none where a form leaves its limits.
+pub(crate) fn interval_or_none(
     alloc: Global,
     algo: &Algo,
     around: &Around<'_>,
@@ -182,15 +191,6 @@ fn span_of(
     }
 }
 
-fn has_span(
-    alloc: Global,
-    algo: &Algo,
-    around: &Around<'_>,
-    expr: &Expr,
-) -> Result<bool, AllocError> {
-    Ok(span_of(alloc, algo, around, expr)?.is_some())
-}
-
 // What is wrong with the result of an operator of whose operands the left one stays within a span.
 fn flaw_beside(
     alloc: Global,
@@ -201,7 +201,7 @@ fn flaw_beside(
     left: &Span1,
     right: &Expr,
 ) -> Result<Option<Flaw>, AllocError> {
-    match span_of(alloc, algo, around, right)? {
+    match interval_or_none(alloc, algo, around, right)? {
         Some(right) => Ok(Some(flaw_of(place, op, left, &right))),
         None => Ok(None),
     }
@@ -217,7 +217,7 @@ fn operator_flaw(
     left: &Expr,
     right: &Expr,
 ) -> Result<Option<Flaw>, AllocError> {
-    match span_of(alloc, algo, around, left)? {
+    match interval_or_none(alloc, algo, around, left)? {
         Some(left) => flaw_beside(alloc, algo, around, place, op, &left, right),
         None => Ok(None),
     }
@@ -254,7 +254,7 @@ pub(crate) fn flaw_in(
     around: &Around<'_>,
     expr: &Expr,
 ) -> Result<Option<Flaw>, AllocError> {
-    if has_span(alloc, algo, around, expr)? {
+    if !passes_limits(interval(alloc, algo, around, expr))? {
         return Ok(None);
     }
     let found = match expr {
@@ -282,12 +282,13 @@ pub(crate) fn flaw_in(
 
 /// A loop that splits make, and how often it counts in its dimension.
 #[derive(Clone, Copy, Drop)]
-struct Counted {
+pub(crate) struct Counted {
     name: Name,
     factor: u64,
 }
 
-fn factor_named(known: &[Counted], name: &Name) -> Option<u64> {
+/// How often the loop of this name counts, where it is one of them.
+pub(crate) fn factor_named(known: &[Counted], name: &Name) -> Option<u64> {
     for one in known {
         if one.name.as_str() == name.as_str() {
             return Some(one.factor);
@@ -296,8 +297,12 @@ fn factor_named(known: &[Counted], name: &Name) -> Option<u64> {
     None
 }
 
-// The loops that the splits of a variable make, that one first.
-fn counted_of(alloc: Global, cuts: &[Split], variable: &Name) -> Result<Vec<Counted>, AllocError> {
+/// The loops that the splits of a variable make, that one first.
+pub(crate) fn counted_of(
+    alloc: Global,
+    cuts: &[Split],
+    variable: &Name,
+) -> Result<Vec<Counted>, AllocError> {
     let mut known = Vec::new(alloc);
     known.push(Counted {
         name: *variable,

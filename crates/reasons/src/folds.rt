@@ -1,6 +1,7 @@
 //! Why a fold is refused.
 
 use crate::causes::{Amount, Cause, FoldCause, Link, Reason, Standstill, Storage};
+use crate::flaws::{Counted, counted_of, factor_named};
 use crate::reach::number_named;
 use crate::readings::Reading;
 use crate::slides::{Slide, readings_at, slide_of, slide_outside};
@@ -10,10 +11,9 @@ use lower::Stop;
 use lower::functions::Stored;
 use lower::inside::{Inner, Party, Root, root_at};
 use lower::spans::{freed, symbols_from, window_size};
-use sched::{Fold, Loop, Mark, Split, Tail};
+use sched::{Fold, Loop, Split, Tail};
 use std::alloc::{AllocError, Global};
-use tree::Expr;
-use tree::token::Name;
+use tree::token::{Name, Span};
 
 /// The most functions of a chain.
 const MOST_LINKS: usize = 6;
@@ -45,47 +45,24 @@ fn slide_at(
     }
 }
 
-// A loop of a dimension, with how many numbers lie between one of its turns and the next.
-#[derive(Clone, Copy, Drop)]
-struct Stride {
-    name: Name,
-    step: i64,
-}
-
-fn step_of(strides: &[Stride], name: &Name) -> Option<i64> {
-    for one in strides {
-        if one.name.as_str() == name.as_str() {
-            return Some(one.step);
-        }
-    }
-    None
-}
-
 // How many numbers of a dimension its last blocks may have past the end, by the splits that let them run past it.
 fn past_end(alloc: Global, cuts: &[Split], along: &Name) -> Result<i64, AllocError> {
-    let mut strides = Vec::new(alloc);
-    strides.push(Stride {
-        name: *along,
-        step: 1,
-    })?;
+    let counted = counted_of(alloc, cuts, along)?;
+    Ok(past_by(cuts, &counted))
+}
+
+fn past_by(cuts: &[Split], counted: &[Counted]) -> i64 {
     let mut past: i64 = 0;
     for cut in cuts {
-        if let Some(step) = step_of(&strides, &cut.whole) {
-            let factor = i64::from(cut.factor);
-            if cut.tail == Tail::Roundup {
-                past = past.saturating_add(step.saturating_mul(factor.saturating_sub(1)));
+        if cut.tail == Tail::Roundup {
+            if let Some(factor) = factor_named(counted, &cut.whole) {
+                let step = i64::try_from(factor).unwrap_or(i64::MAX);
+                let most = i64::from(cut.factor).saturating_sub(1);
+                past = past.saturating_add(step.saturating_mul(most));
             }
-            strides.push(Stride {
-                name: cut.inner,
-                step,
-            })?;
-            strides.push(Stride {
-                name: cut.outer,
-                step: step.saturating_mul(factor),
-            })?;
         }
     }
-    Ok(past)
+    past
 }
 
 // How many places more than its window has numbers a function needs: what is computed past the end, and one more where bounds take
@@ -174,17 +151,35 @@ fn in_turn(alloc: Global, turn: &Scope, scope: &Scope, span: &Span1) -> Result<S
     freed(alloc, scope, &inside, span)
 }
 
+fn span_from(alloc: Global, lower: &Forms, upper: &Forms) -> Result<Span1, AllocError> {
+    Ok(Span1 {
+        lower: lower.copy(alloc)?,
+        upper: upper.copy(alloc)?,
+    })
+}
+
 fn size_from(
     alloc: Global,
     turn: &Scope,
     lower: &Forms,
     upper: &Forms,
 ) -> Result<Option<i64>, AllocError> {
-    let span = Span1 {
-        lower: lower.copy(alloc)?,
-        upper: upper.copy(alloc)?,
-    };
+    let span = span_from(alloc, lower, upper)?;
     window_size(alloc, turn, &span)
+}
+
+// How many numbers there are from the first of all to the last of a span, or from its first on.
+fn size_to(
+    alloc: Global,
+    turn: &Scope,
+    all: &Span1,
+    own: &Span1,
+    end: End,
+) -> Result<Option<i64>, AllocError> {
+    match end {
+        End::First => size_from(alloc, turn, &own.lower, &all.upper),
+        End::Last => size_from(alloc, turn, &all.lower, &own.upper),
+    }
 }
 
 // How many numbers there are from the first of all to the last that the index reads, or from the first that it reads on.
@@ -199,11 +194,7 @@ fn reached(
         return Ok(None);
     };
     let own = in_turn(alloc, turn, &reading.scope, span)?;
-    let size = match end {
-        End::First => size_from(alloc, turn, &own.lower, &all.upper)?,
-        End::Last => size_from(alloc, turn, &all.lower, &own.upper)?,
-    };
-    Ok(size)
+    Ok(size_to(alloc, turn, all, &own, end)?)
 }
 
 // The place of the index that reads farthest in a dimension.
@@ -237,14 +228,14 @@ fn farthest(
     }
 }
 
-// How many are computed inside before the function of this name.
-fn first_named(inners: &[Inner<'_>], name: &Name) -> usize {
-    for (place, inner) in inners.iter().enumerate() {
+// Where the function of this name is computed first.
+fn first_named(inners: &[Inner<'_>], name: &Name) -> Option<usize> {
+    for (number, inner) in inners.iter().enumerate() {
         if is_named(inner, name) {
-            return place;
+            return Some(number);
         }
     }
-    inners.len()
+    None
 }
 
 // The indices at which those that are declared later call a function where it is computed.
@@ -256,7 +247,8 @@ fn readings_of<'a>(
     inner: &Inner<'a>,
 ) -> Result<Vec<Reading<'a>>, Stop> {
     let name = inner.root.stored.subject.name;
-    let Some(callers) = inners.get(..first_named(inners, &name)) else {
+    let before = first_named(inners, &name).unwrap_or(inners.len());
+    let Some(callers) = inners.get(..before) else {
         return Ok(Vec::new(alloc));
     };
     readings_at(alloc, algo, group, callers, inner.home, name.as_str())
@@ -264,24 +256,24 @@ fn readings_of<'a>(
 
 // ---- chains
 
-fn link(
-    alloc: Global,
-    scope: &Scope,
-    root: &Root<'_>,
-    dimension: usize,
-    span: &Span1,
-) -> Result<Option<Link>, AllocError> {
-    let Some(variable) = root.stored.subject.variables.get(dimension) else {
-        return Ok(None);
-    };
-    let Some(count) = window_size(alloc, scope, span)? else {
-        return Ok(None);
-    };
-    Ok(Some(Link {
+fn link(root: &Root<'_>, dimension: usize, count: i64) -> Option<Link> {
+    let variable = root.stored.subject.variables.get(dimension)?;
+    Some(Link {
         function: root.stored.subject.name,
         variable: *variable,
         amount: Amount::Numbers(count),
-    }))
+    })
+}
+
+// How many numbers a span has in a turn.
+fn size_in_turn(
+    alloc: Global,
+    turn: &Scope,
+    scope: &Scope,
+    span: &Span1,
+) -> Result<Option<i64>, Stop> {
+    let own = in_turn(alloc, turn, scope, span)?;
+    Ok(window_size(alloc, turn, &own)?)
 }
 
 // How much of itself a group's own function computes in a turn.
@@ -297,8 +289,10 @@ fn group_link(
     let Some(own) = &reading.own else {
         return Ok(None);
     };
-    let span = in_turn(alloc, turn, &reading.scope, own)?;
-    Ok(link(alloc, turn, group, dimension, &span)?)
+    let Some(count) = size_in_turn(alloc, turn, &reading.scope, own)? else {
+        return Ok(None);
+    };
+    Ok(link(group, dimension, count))
 }
 
 fn inner_link(
@@ -306,10 +300,37 @@ fn inner_link(
     inner: &Inner<'_>,
     dimension: usize,
 ) -> Result<Option<Link>, AllocError> {
-    match inner.region.as_slice().get(dimension) {
-        Some(span) => link(alloc, &inner.scope, &inner.root, dimension, span),
+    let Some(span) = inner.region.as_slice().get(dimension) else {
+        return Ok(None);
+    };
+    match window_size(alloc, &inner.scope, span)? {
+        Some(count) => Ok(link(&inner.root, dimension, count)),
         None => Ok(None),
     }
+}
+
+// The reader that needs most of a function with its dimension; where that is the group's own function, what that computes is added.
+fn next_reader(
+    alloc: Global,
+    group: &Root<'_>,
+    inner: &Inner<'_>,
+    dimension: usize,
+    readings: &[Reading<'_>],
+    chain: &mut Vec<Link>,
+) -> Result<Option<(usize, usize)>, Stop> {
+    let Some(place) = farthest(alloc, inner, dimension, readings, End::Last)? else {
+        return Ok(None);
+    };
+    let Some(reading) = readings.get(place) else {
+        return Ok(None);
+    };
+    if let (Some(number), Some(along)) = (reading.number, reading.along) {
+        return Ok(Some((number, along)));
+    }
+    if let Some(last) = group_link(alloc, &inner.scope, group, reading)? {
+        chain.push(last)?;
+    }
+    Ok(None)
 }
 
 // Adds what is needed of a function in a turn, and tells the reader that needs most of it with its dimension.
@@ -327,19 +348,7 @@ fn add_link<'a>(
     };
     chain.push(own)?;
     let readings = readings_of(alloc, algo, group, inners, inner)?;
-    let Some(place) = farthest(alloc, inner, dimension, &readings, End::Last)? else {
-        return Ok(None);
-    };
-    let Some(reading) = readings.get(place) else {
-        return Ok(None);
-    };
-    if let (Some(number), Some(along)) = (reading.number, reading.along) {
-        return Ok(Some((number, along)));
-    }
-    if let Some(last) = group_link(alloc, &inner.scope, group, reading)? {
-        chain.push(last)?;
-    }
-    Ok(None)
+    next_reader(alloc, group, inner, dimension, &readings, chain)
 }
 
 // What a turn needs of a function, and of its readers.
@@ -367,21 +376,36 @@ fn chain_of<'a>(
 
 // ---- reasons
 
-// The place in the algorithm's text of the index that reads farthest.
+// Adds the place in the algorithm's text of the index that reads farthest.
 fn add_place(
     alloc: Global,
     inner: &Inner<'_>,
     dimension: usize,
     readings: &[Reading<'_>],
     end: End,
-    reason: &mut Reason,
+    places: &mut Vec<Span>,
 ) -> Result<(), Stop> {
     if let Some(place) = farthest(alloc, inner, dimension, readings, end)? {
         if let Some(reading) = readings.get(place) {
-            reason.places.push(reading.index.span())?;
+            places.push(reading.index.span())?;
         }
     }
     Ok(())
+}
+
+// Adds those of the indices that read farthest down and up.
+fn add_places<'a>(
+    alloc: Global,
+    algo: &Algo,
+    group: &Root<'a>,
+    inners: &[Inner<'a>],
+    inner: &Inner<'a>,
+    dimension: usize,
+    places: &mut Vec<Span>,
+) -> Result<(), Stop> {
+    let readings = readings_of(alloc, algo, group, inners, inner)?;
+    add_place(alloc, inner, dimension, &readings, End::First, places)?;
+    add_place(alloc, inner, dimension, &readings, End::Last, places)
 }
 
 fn small<'a>(
@@ -392,16 +416,18 @@ fn small<'a>(
     number: usize,
     dimension: usize,
     cause: FoldCause,
-) -> Result<Reason, Stop> {
-    let mut reason = Cause::Fold(cause).alone(alloc);
+) -> Result<Option<Reason>, Stop> {
     let Some(inner) = inners.get(number) else {
-        return Ok(reason);
+        return Ok(Some(Cause::Fold(cause).alone(alloc)));
     };
-    let readings = readings_of(alloc, algo, group, inners, inner)?;
-    add_place(alloc, inner, dimension, &readings, End::First, &mut reason)?;
-    add_place(alloc, inner, dimension, &readings, End::Last, &mut reason)?;
-    reason.chain = chain_of(alloc, algo, group, inners, number, dimension)?;
-    Ok(reason)
+    let mut places = Vec::new(alloc);
+    add_places(alloc, algo, group, inners, inner, dimension, &mut places)?;
+    let chain = chain_of(alloc, algo, group, inners, number, dimension)?;
+    Ok(Some(Reason {
+        cause: Cause::Fold(cause),
+        places,
+        chain,
+    }))
 }
 
 // The first fold of another variable.
@@ -467,17 +493,29 @@ fn misfit(
     }
 }
 
-// The first index of the dimension that is folded.
-fn folded_index<'a>(inner: &Inner<'a>, readings: &[Reading<'a>]) -> Option<&'a Expr> {
+// The place in the algorithm's text of the first of these indices of the dimension that is folded.
+fn folded_index(inner: &Inner<'_>, readings: &[Reading<'_>]) -> Option<Span> {
     let fold = inner.root.stored.placed.folds.first()?;
     for reading in readings {
         if let Some(variable) = inner.root.stored.subject.variables.get(reading.dimension) {
             if variable.as_str() == fold.dimension.as_str() {
-                return Some(reading.index);
+                return Some(reading.index.span());
             }
         }
     }
     None
+}
+
+// The same of all indices at which a function is called.
+fn folded_place<'a>(
+    alloc: Global,
+    algo: &Algo,
+    group: &Root<'a>,
+    inners: &[Inner<'a>],
+    inner: &Inner<'a>,
+) -> Result<Option<Span>, Stop> {
+    let readings = readings_of(alloc, algo, group, inners, inner)?;
+    Ok(folded_index(inner, &readings))
 }
 
 // The reason, at the first index of the dimension that is folded.
@@ -489,9 +527,8 @@ fn at_folded<'a>(
     inner: &Inner<'a>,
     cause: FoldCause,
 ) -> Result<Option<Reason>, Stop> {
-    let readings = readings_of(alloc, algo, group, inners, inner)?;
-    match folded_index(inner, &readings) {
-        Some(index) => Ok(Some(Cause::Fold(cause).at(alloc, index.span())?)),
+    match folded_place(alloc, algo, group, inners, inner)? {
+        Some(place) => Ok(Some(Cause::Fold(cause).at(alloc, place)?)),
         None => Ok(Some(Cause::Fold(cause).alone(alloc))),
     }
 }
@@ -529,10 +566,7 @@ fn reason_at<'a>(
     match slide_of(alloc, group, inners, inner)? {
         Slide::Nowhere(why) => unslid(alloc, algo, group, inners, inner, why),
         Slide::Along(dimension) => match misfit(alloc, parties, inner, dimension)? {
-            Some(cause) => {
-                let reason = small(alloc, algo, group, inners, number, dimension, cause)?;
-                Ok(Some(reason))
-            }
+            Some(cause) => small(alloc, algo, group, inners, number, dimension, cause),
             None => Ok(None),
         },
     }
@@ -566,33 +600,16 @@ pub(crate) fn fold_reason(
 
 // ---- folds that no window is asked for
 
-// Where the function is computed first.
-fn first_number(inners: &[Inner<'_>], name: &Name) -> Option<usize> {
-    let number = first_named(inners, name);
-    if number < inners.len() {
-        Some(number)
-    } else {
-        None
-    }
-}
-
-fn loop_place(loops: &[Loop], name: &Name) -> Option<usize> {
-    for (place, one) in loops.iter().enumerate() {
-        if one.name.as_str() == name.as_str() {
-            return Some(place);
-        }
-    }
-    None
-}
-
 // The loop directly outside of another one, where that is not parallel.
 fn next_outer(loops: &[Loop], turn: &Name) -> Option<Name> {
-    let place = loop_place(loops, turn)?;
-    if loops.get(place)?.mark == Some(Mark::Parallel) {
-        return None;
+    let mut is_next = false;
+    for one in loops {
+        if is_next {
+            return Some(one.name);
+        }
+        is_next = one.name.as_str() == turn.as_str() && !one.is_parallel();
     }
-    let outer = loops.get(place.saturating_add(1))?;
-    Some(outer.name)
+    None
 }
 
 // As many places as the fold has, where it is of this variable, and at least so many.
@@ -663,8 +680,7 @@ fn unstored_reason<'a>(
                 turn,
                 mend,
             };
-            let reason = small(alloc, algo, group, inners, number, dimension, cause)?;
-            Ok(Some(reason))
+            small(alloc, algo, group, inners, number, dimension, cause)
         }
         Slide::Nowhere(_) => {
             let cause = FoldCause::NotStored {
@@ -734,7 +750,7 @@ pub(crate) fn form_reason(
     }
     for party in parties {
         if let Ok(inners) = &party.inners {
-            if let Some(number) = first_number(inners, name) {
+            if let Some(number) = first_named(inners, name) {
                 return unstored_reason(alloc, algo, parties, &party.root, inners, number);
             }
         }

@@ -18,12 +18,12 @@ fn write_fold<W: Write>(
     enough: Option<i64>,
     f: &mut Formatter<W>,
 ) -> fmt::Result {
-    let place = (function.as_str(), along.as_str());
     match enough {
         Some(count) => write!(
             f,
             "Write `{}.fold({}, {count})`, or leave the fold out.",
-            place.0, place.1
+            function.as_str(),
+            along.as_str()
         ),
         None => f.write_str("Leave the fold out."),
     }

@@ -37,8 +37,12 @@ pub(crate) fn root_numbered<'a>(
     number: usize,
 ) -> Option<Root<'a>> {
     let stored = stored.get(number)?;
-    let formulas = stored.formulas.as_ref()?;
-    let laid = laid.get(number)?.as_ref()?;
+    let Some(formulas) = &stored.formulas else {
+        return None;
+    };
+    let Some(Some(laid)) = laid.get(number) else {
+        return None;
+    };
     Some(Root {
         stored,
         formulas,
@@ -67,6 +71,23 @@ pub(crate) fn read_ends(alloc: Global, reading: &Reading<'_>) -> Result<Option<E
     }
 }
 
+/// Adds the indices at which a function calls another one, in the loops over its region.
+pub(crate) fn add_root<'a>(
+    alloc: Global,
+    algo: &Algo,
+    root: &Root<'a>,
+    number: Option<usize>,
+    callee: &str,
+    found: &mut Vec<Reading<'a>>,
+) -> Result<(), Stop> {
+    let skeleton = &root.laid.skeleton;
+    let outer = head_scope(alloc, skeleton)?;
+    let nests = &skeleton.nests;
+    add_readings(
+        alloc, algo, root, number, &outer, nests, None, callee, found,
+    )
+}
+
 /// The indices at which those that are declared later call a function, in the loops over their regions.
 pub(crate) fn later_readings<'a>(
     alloc: Global,
@@ -82,20 +103,7 @@ pub(crate) fn later_readings<'a>(
     let callee = one.subject.name.as_str();
     for user in number.saturating_add(1)..stored.len() {
         if let Some(root) = root_numbered(stored, laid, user) {
-            let skeleton = &root.laid.skeleton;
-            let outer = head_scope(alloc, skeleton)?;
-            let nests = &skeleton.nests;
-            add_readings(
-                alloc,
-                algo,
-                &root,
-                Some(user),
-                &outer,
-                nests,
-                None,
-                callee,
-                &mut found,
-            )?;
+            add_root(alloc, algo, &root, Some(user), callee, &mut found)?;
         }
     }
     Ok(found)
@@ -140,6 +148,24 @@ fn link(root: &Root<'_>, dimension: usize) -> Option<Link> {
     })
 }
 
+// The reader of that reading, with its dimension.
+fn widest_reader(
+    alloc: Global,
+    readings: &[Reading<'_>],
+    dimension: usize,
+) -> Result<Option<(usize, usize)>, Stop> {
+    let Some(place) = widest(alloc, readings, dimension)? else {
+        return Ok(None);
+    };
+    match readings.get(place) {
+        Some(reading) => match (reading.number, reading.along) {
+            (Some(next), Some(along)) => Ok(Some((next, along))),
+            _ => Ok(None),
+        },
+        None => Ok(None),
+    }
+}
+
 // Adds the region of a function, and tells its widest reader with that one's dimension.
 fn add_link<'a>(
     alloc: Global,
@@ -158,16 +184,7 @@ fn add_link<'a>(
     };
     chain.push(own)?;
     let readings = later_readings(alloc, algo, stored, laid, number)?;
-    let Some(place) = widest(alloc, &readings, dimension)? else {
-        return Ok(None);
-    };
-    match readings.get(place) {
-        Some(reading) => match (reading.number, reading.along) {
-            (Some(next), Some(along)) => Ok(Some((next, along))),
-            _ => Ok(None),
-        },
-        None => Ok(None),
-    }
+    widest_reader(alloc, &readings, dimension)
 }
 
 /// The region of a function along one of its variables, and those of its readers.
@@ -309,17 +326,17 @@ fn strayed(
     function: Option<Name>,
     reading: &Reading<'_>,
     has: (i64, i64),
-) -> Result<Stray, AllocError> {
+) -> Result<Option<Stray>, Stop> {
     let cause = stray_cause(alloc, algo, caller, function, reading, has)?;
     let place = match &reading.flaw {
         Some(flaw) => flaw.place,
         None => reading.index.span(),
     };
-    Ok(Stray {
+    Ok(Some(Stray {
         place,
         along: reading.along,
         cause,
-    })
+    }))
 }
 
 // Whether a reading is shown to lie from 0 to the last number.
@@ -339,7 +356,7 @@ fn input_stray_among(
         if let Some(extent) = algo.input().shape.extents.get(reading.dimension) {
             let last = i64::from(*extent) - 1;
             if !is_read_up_to(alloc, reading, last)? {
-                return Ok(Some(strayed(alloc, algo, root, None, reading, (0, last))?));
+                return strayed(alloc, algo, root, None, reading, (0, last));
             }
         }
     }
@@ -386,7 +403,7 @@ fn own_stray_among(
                 let ends = ends_of(alloc, outer, extents)?;
                 let has = (ends.low, ends.high);
                 let name = root.stored.subject.name;
-                return Ok(Some(strayed(alloc, algo, root, Some(name), reading, has)?));
+                return strayed(alloc, algo, root, Some(name), reading, has);
             }
         }
     }
@@ -443,9 +460,8 @@ fn root_stray(alloc: Global, algo: &Algo, root: &Root<'_>) -> Result<Option<Stra
 fn inner_stray(alloc: Global, algo: &Algo, inner: &Inner<'_>) -> Result<Option<Stray>, Stop> {
     let root = &inner.root;
     let region = &inner.region;
-    let found = first_stray(alloc, algo, root, &inner.scope, &inner.nests, region)?;
-    if found.is_some() {
-        return Ok(found);
+    if let Some(stray) = first_stray(alloc, algo, root, &inner.scope, &inner.nests, region)? {
+        return Ok(Some(stray));
     }
     match &inner.later {
         Some(later) => first_stray(alloc, algo, root, &later.scope, &later.nests, region),
@@ -492,12 +508,12 @@ fn stray_reason<'a>(
     laid: &'a [Option<Laid>],
     number: usize,
     stray: &Stray,
-) -> Result<Reason, Stop> {
+) -> Result<Option<Reason>, Stop> {
     let mut reason = Cause::Bound(stray.cause).at(alloc, stray.place)?;
     if let Some(dimension) = stray.along {
         reason.chain = chain_of(alloc, algo, stored, laid, number, dimension)?;
     }
-    Ok(reason)
+    Ok(Some(reason))
 }
 
 // The first index by which a function with a region breaks the rule.
@@ -525,11 +541,8 @@ fn laid_reason<'a>(
     number: usize,
 ) -> Result<Option<Reason>, Stop> {
     match stray_of(alloc, algo, parties, root)? {
-        Some(stray) => {
-            let reason = stray_reason(alloc, algo, stored, laid, number, &stray)?;
-            Ok(Some(reason))
-        }
-        None => Ok(turn_reason(alloc, algo, stored, laid, root.stored)?),
+        Some(stray) => stray_reason(alloc, algo, stored, laid, number, &stray),
+        None => turn_reason(alloc, algo, stored, laid, root.stored),
     }
 }
 

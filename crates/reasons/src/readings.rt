@@ -1,6 +1,6 @@
 //! The indices of calls, with what they stay within.
 
-use crate::flaws::{Flaw, flaw_in};
+use crate::flaws::{Flaw, flaw_in, interval_or_none};
 use algo::Algo;
 use algo::scoping::{NotAmong, first_variable};
 use lin::{Scope, Span1};
@@ -8,7 +8,7 @@ use lower::Stop;
 use lower::functions::{Call, Formula, calls_of};
 use lower::inside::Root;
 use lower::reach::counts;
-use lower::spans::{Around, around_in, around_left, interval};
+use lower::spans::{Around, around_in, around_left};
 use sched::Nest;
 use std::alloc::{AllocError, Global};
 use std::slice;
@@ -62,20 +62,6 @@ fn coordinate(
     match around.coordinates.as_slice().get(dimension) {
         Some(span) => Ok(Some(span.copy(alloc)?)),
         None => Ok(None),
-    }
-}
-
-// None where a form leaves its limits.
-fn interval_or_none(
-    alloc: Global,
-    algo: &Algo,
-    around: &Around<'_>,
-    index: &Expr,
-) -> Result<Option<Span1>, AllocError> {
-    match interval(alloc, algo, around, index) {
-        Ok(span) => Ok(Some(span)),
-        Err(Stop::Limit) => Ok(None),
-        Err(Stop::Memory) => Err(AllocError),
     }
 }
 
@@ -145,7 +131,7 @@ fn add_calls<'a>(
     formula: &'a Formula,
     callee: &str,
     found: &mut Vec<Reading<'a>>,
-) -> Result<(), AllocError> {
+) -> Result<(), Stop> {
     let calls = calls_of(alloc, formula)?;
     for call in &calls {
         if call.name == callee {
@@ -172,9 +158,9 @@ fn add_definition<'a>(
         return Ok(());
     };
     let around = around_in(alloc, algo, user.stored, outer, nest, formula, definition)?;
-    Ok(add_calls(
+    add_calls(
         alloc, algo, user, number, definition, &around, None, formula, callee, found,
-    )?)
+    )
 }
 
 /// Adds the indices at which a function's nests call another one, or that of one definition, inside of other symbols.
@@ -266,7 +252,7 @@ fn add_own<'a>(
     nest: &Nest,
     formula: &'a Formula,
     found: &mut Vec<Reading<'a>>,
-) -> Result<(), AllocError> {
+) -> Result<(), Stop> {
     match around_or_none(alloc, algo, user, outer, nest, formula, definition)? {
         Some(around) => {
             let name = user.stored.subject.name;
@@ -288,9 +274,12 @@ pub(crate) fn own_readings<'a>(
     number: Option<usize>,
     outer: &Scope,
     nests: &[Nest],
-) -> Result<Vec<Reading<'a>>, AllocError> {
+) -> Result<Vec<Reading<'a>>, Stop> {
     let mut found = Vec::new(alloc);
-    for (definition, (formula, nest)) in user.formulas.iter().zip(nests.iter()).enumerate() {
+    for (definition, formula) in user.formulas.iter().enumerate() {
+        let Some(nest) = nests.get(definition) else {
+            return Ok(found);
+        };
         add_set(
             alloc, algo, user, number, definition, outer, nest, formula, &mut found,
         )?;

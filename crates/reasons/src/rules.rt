@@ -9,9 +9,9 @@ use crate::reach::bound_reason;
 use crate::sizes::size_reason;
 use crate::stores::with_store;
 use algo::Algo;
-use lower::functions::stored_functions;
-use lower::inside::parties_of;
-use lower::reach::laid_all;
+use lower::functions::{Stored, stored_functions};
+use lower::inside::{Party, parties_of};
+use lower::reach::{Laid, laid_all};
 use lower::{LowerError, Stop};
 use sched::{Placement, RegionRule, Rule, Sched, SchedError, followed};
 use std::alloc::{AllocError, Global};
@@ -26,11 +26,45 @@ fn if_found(found: Result<Option<Reason>, Stop>) -> Result<Option<Reason>, Alloc
     }
 }
 
+/// What a function of a placement broke.
+#[derive(Clone, Copy, Drop)]
+enum Broken {
+    /// A rule that asks for its region.
+    Region(RegionRule),
+    /// That a window is asked for each of its folds.
+    Unwindowed,
+}
+
+fn laid_reason<'a>(
+    alloc: Global,
+    algo: &Algo,
+    placement: &Placement,
+    stored: &'a [Stored<'a>],
+    laid: &'a [Option<Laid>],
+    parties: &[Party<'a>],
+    broken: Broken,
+    name: &Name,
+) -> Result<Option<Reason>, AllocError> {
+    match broken {
+        Broken::Unwindowed => if_found(form_reason(alloc, algo, stored, parties, name)),
+        Broken::Region(rule) => match rule {
+            RegionRule::OutsideUse | RegionRule::ShortShift => Ok(None),
+            RegionRule::SmallFold => if_found(fold_reason(alloc, algo, parties, name)),
+            RegionRule::TooLarge | RegionRule::TooMuch => {
+                size_reason(alloc, algo, placement, stored, laid, name)
+            }
+            RegionRule::Unbounded => {
+                if_found(bound_reason(alloc, algo, stored, laid, parties, name))
+            }
+        },
+    }
+}
+
 fn placed_reason(
     alloc: Global,
     algo: &Algo,
     placement: &Placement,
-    rule: RegionRule,
+    broken: Broken,
     name: &Name,
 ) -> Result<Option<Reason>, AllocError>
     requires { length placement.now.subjects.items ≡ length (algorithm_of algo.now).functions }
@@ -38,31 +72,9 @@ fn placed_reason(
     let stored = stored_functions(alloc, algo, placement)?;
     let laid = laid_all(alloc, algo, &stored)?;
     let parties = parties_of(alloc, algo, &stored, &laid)?;
-    match rule {
-        RegionRule::OutsideUse | RegionRule::ShortShift => Ok(None),
-        RegionRule::SmallFold => if_found(fold_reason(alloc, algo, &parties, name)),
-        RegionRule::TooLarge | RegionRule::TooMuch => {
-            size_reason(alloc, algo, placement, &stored, &laid, name)
-        }
-        RegionRule::Unbounded => {
-            if_found(bound_reason(alloc, algo, &stored, &laid, &parties, name))
-        }
-    }
-}
-
-// Why a function has a fold for which no window is asked.
-fn unwindowed_reason(
-    alloc: Global,
-    algo: &Algo,
-    placement: &Placement,
-    name: &Name,
-) -> Result<Option<Reason>, AllocError>
-    requires { length placement.now.subjects.items ≡ length (algorithm_of algo.now).functions }
-{
-    let stored = stored_functions(alloc, algo, placement)?;
-    let laid = laid_all(alloc, algo, &stored)?;
-    let parties = parties_of(alloc, algo, &stored, &laid)?;
-    if_found(form_reason(alloc, algo, &stored, &parties, name))
+    laid_reason(
+        alloc, algo, placement, &stored, &laid, &parties, broken, name,
+    )
 }
 
 // What made a schedule break a rule that asks for no region.
@@ -76,7 +88,7 @@ fn ruled_reason(
     match rule {
         Rule::InlineUpdates => Ok(Some(Cause::Updates(*name).alone(alloc))),
         Rule::BadFold => match followed(alloc, algo, sched) {
-            Ok(placement) => unwindowed_reason(alloc, algo, &placement, name),
+            Ok(placement) => placed_reason(alloc, algo, &placement, Broken::Unwindowed, name),
             Err(SchedError::Memory) => Err(AllocError),
             Err(_) => Ok(None),
         },
@@ -95,7 +107,7 @@ fn region_reason(
 ) -> Result<Option<Reason>, AllocError>
     requires { length placement.now.subjects.items ≡ length (algorithm_of algo.now).functions }
 {
-    match placed_reason(alloc, algo, placement, rule, name)? {
+    match placed_reason(alloc, algo, placement, Broken::Region(rule), name)? {
         Some(found) => {
             let mut reason = found;
             reason.cause = with_store(alloc, algo, sched, placement, reason.cause)?;

@@ -242,8 +242,8 @@ fn excess_of(stored: &[Stored<'_>], laid: &[Option<Laid>], name: &Name) -> Optio
     };
     let mut cells = (0, *name);
     let mut pieces = (0, *name);
-    for (one, laid) in stored.iter().zip(laid.iter()) {
-        if let Some(laid) = laid {
+    for (number, one) in stored.iter().enumerate() {
+        if let Some(Some(laid)) = laid.get(number) {
             if one.subject.is_root {
                 let own = totals_of(laid);
                 totals = totals.joined(own);

@@ -34,6 +34,17 @@ fn standstill(region: &Region, track: &Track) -> Standstill {
     }
 }
 
+// In which dimension a function slides along a loop, or why in none.
+fn slide_along(inner: &Inner<'_>, track: &Track) -> Result<Slide, AllocError> {
+    match sliding_dimension(&inner.region, track)? {
+        Some(dimension) if is_scattered(&inner.root, dimension) => {
+            Ok(Slide::Nowhere(Standstill::Scattered))
+        }
+        Some(dimension) => Ok(Slide::Along(dimension)),
+        None => Ok(Slide::Nowhere(standstill(&inner.region, track))),
+    }
+}
+
 /// In which dimension a function slides that is computed inside a group, or why in none.
 pub(crate) fn slide_of<'a>(
     alloc: Global,
@@ -57,15 +68,9 @@ pub(crate) fn slide_outside<'a>(
     let Some(steps) = steps_at(group, inners, inner.home) else {
         return Ok(Slide::Nowhere(Standstill::OneTurn));
     };
-    let Some(track) = track_of(alloc, steps)? else {
-        return Ok(Slide::Nowhere(Standstill::OneTurn));
-    };
-    match sliding_dimension(&inner.region, &track)? {
-        Some(dimension) if is_scattered(&inner.root, dimension) => {
-            Ok(Slide::Nowhere(Standstill::Scattered))
-        }
-        Some(dimension) => Ok(Slide::Along(dimension)),
-        None => Ok(Slide::Nowhere(standstill(&inner.region, &track))),
+    match track_of(alloc, steps)? {
+        Some(track) => slide_along(inner, &track),
+        None => Ok(Slide::Nowhere(Standstill::OneTurn)),
     }
 }
 

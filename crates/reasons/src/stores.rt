@@ -52,7 +52,7 @@ fn with_root(alloc: Global, sched: &Sched, name: &Name) -> Result<Sched, AllocEr
 // ---- trials
 
 /// What comes of it where one function more is stored.
-#[derive(Clone, Copy, PartialEq, Eq, Drop)]
+#[derive(Clone, Copy, Drop)]
 enum Trial {
     /// That function, or the one that broke a rule, breaks one.
     Broken,
@@ -113,13 +113,12 @@ fn store_below(
     caller: &Name,
 ) -> Result<Option<(Name, bool)>, AllocError> {
     let mut begun = None;
-    for name in inlined_below(alloc, algo, placement, caller)? {
-        let trial = trial_of(alloc, algo, sched, caller, &name)?;
-        if trial == Trial::Enough {
-            return Ok(Some((name, true)));
-        }
-        if trial == Trial::Begun && begun.is_none() {
-            begun = Some((name, false));
+    let names = inlined_below(alloc, algo, placement, caller)?;
+    for name in &names {
+        match trial_of(alloc, algo, sched, caller, name)? {
+            Trial::Enough => return Ok(Some((*name, true))),
+            Trial::Begun if begun.is_none() => begun = Some((*name, false)),
+            _ => {}
         }
     }
     Ok(begun)

@@ -75,11 +75,11 @@ fn write_unstored<W: Write>(
 }
 
 fn write_empty<W: Write>(function: &Name, along: &Name, f: &mut Formatter<W>) -> fmt::Result {
-    let place = (function.as_str(), along.as_str());
     write!(
         f,
         "The fold of `{}.{}` has 0 places, and holds nothing.",
-        place.0, place.1
+        function.as_str(),
+        along.as_str()
     )
 }
 
@@ -91,13 +91,13 @@ fn write_small<W: Write>(
     window: i64,
     f: &mut Formatter<W>,
 ) -> fmt::Result {
-    let place = (function.as_str(), along.as_str());
     let turn = turn.as_str();
     let things = if places == 1 { "place" } else { "places" };
     write!(
         f,
         "A turn of `{turn}` needs {window} numbers of `{}.{}`, and the fold has {places} {things}.",
-        place.0, place.1
+        function.as_str(),
+        along.as_str()
     )
 }
 
@@ -114,15 +114,10 @@ fn write_outside<W: Write>(
         None => "the input",
     };
     let (first, last) = has;
+    write!(f, "In `{caller}` this index of {callee} ")?;
     match found {
-        Some((low, high)) => write!(
-            f,
-            "In `{caller}` this index of {callee} comes to {low}:{high}, and must stay in {first}:{last}."
-        ),
-        None => write!(
-            f,
-            "In `{caller}` this index of {callee} is not shown to stay in {first}:{last}."
-        ),
+        Some((low, high)) => write!(f, "comes to {low}:{high}, and must stay in {first}:{last}."),
+        None => write!(f, "is not shown to stay in {first}:{last}."),
     }
 }
 
@@ -204,17 +199,15 @@ fn write_form<W: Write>(
         Some(name) => name.as_str(),
         None => "the input",
     };
-    if is_split {
-        write!(
-            f,
-            "In the loops of the splits of `{caller}` this has {excess}; so this index of {callee} has no bounds."
-        )
+    let place = if is_split {
+        "In the loops of the splits of"
     } else {
-        write!(
-            f,
-            "In `{caller}` this has {excess}; so this index of {callee} has no bounds."
-        )
-    }
+        "In"
+    };
+    write!(
+        f,
+        "{place} `{caller}` this has {excess}; so this index of {callee} has no bounds."
+    )
 }
 
 fn write_splits<W: Write>(
@@ -223,8 +216,12 @@ fn write_splits<W: Write>(
     excess: Excess,
     f: &mut Formatter<W>,
 ) -> fmt::Result {
-    let place = (function.as_str(), variable.as_str());
-    write!(f, "With its splits `{}.{}` has {excess}.", place.0, place.1)
+    write!(
+        f,
+        "With its splits `{}.{}` has {excess}.",
+        function.as_str(),
+        variable.as_str()
+    )
 }
 
 fn write_uncounted<W: Write>(
@@ -233,12 +230,12 @@ fn write_uncounted<W: Write>(
     turn: &Name,
     f: &mut Formatter<W>,
 ) -> fmt::Result {
-    let place = (function.as_str(), variable.as_str());
     let turn = turn.as_str();
     write!(
         f,
         "No bound is found of how many numbers of `{}.{}` a turn of `{turn}` needs.",
-        place.0, place.1
+        function.as_str(),
+        variable.as_str()
     )
 }
 
@@ -268,12 +265,12 @@ fn write_wide<W: Write>(
     is_set: bool,
     f: &mut Formatter<W>,
 ) -> fmt::Result {
-    let place = (function.as_str(), variable.as_str());
     let done = if is_set { "set" } else { "called" };
     write!(
         f,
         "`{}.{}` is {done} from {low} to {high}, and 8192 numbers are allowed.",
-        place.0, place.1
+        function.as_str(),
+        variable.as_str()
     )
 }
 
@@ -378,7 +375,7 @@ impl Display for BoundCause {
                 has,
                 ..
             } => write_clamped(function, caller, *has, f),
-            BoundCause::Turn(cause) => write!(f, "{cause}"),
+            BoundCause::Turn(cause) => cause.fmt(f),
         }
     }
 }
@@ -391,9 +388,9 @@ impl Display for Cause {
                 "`{}` has updates, and is not stored.",
                 name.as_str()
             ),
-            Cause::Fold(cause) => write!(f, "{cause}"),
-            Cause::Size(cause) => write!(f, "{cause}"),
-            Cause::Bound(cause) => write!(f, "{cause}"),
+            Cause::Fold(cause) => cause.fmt(f),
+            Cause::Size(cause) => cause.fmt(f),
+            Cause::Bound(cause) => cause.fmt(f),
         }
     }
 }

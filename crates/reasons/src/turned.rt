@@ -2,6 +2,7 @@
 
 use crate::asked::{is_whole, read_reason, unbounded_at};
 use crate::causes::{BoundCause, Cause, Reason, TurnCause};
+use crate::flaws::passes_limits;
 use crate::reach::number_named;
 use crate::readings::{Reading, add_readings};
 use crate::slides::readings_at;
@@ -18,15 +19,6 @@ use lower::spans::{head_scope, shortest};
 use sched::Nest;
 use std::alloc::{AllocError, Global};
 use tree::token::Name;
-
-// Whether there is none within the limits.
-fn passes_limits<T: Drop>(made: Result<T, Stop>) -> Result<bool, AllocError> {
-    match made {
-        Ok(_) => Ok(false),
-        Err(Stop::Limit) => Ok(true),
-        Err(Stop::Memory) => Err(AllocError),
-    }
-}
 
 // ---- one place
 
@@ -83,10 +75,13 @@ fn at_first(
     readings: &[Reading<'_>],
     dimension: usize,
     cause: BoundCause,
-) -> Result<Reason, AllocError> {
+) -> Result<Option<Reason>, Stop> {
     match first_of(readings, dimension) {
-        Some(reading) => Cause::Bound(cause).at(alloc, reading.index.span()),
-        None => Ok(Cause::Bound(cause).alone(alloc)),
+        Some(reading) => {
+            let reason = Cause::Bound(cause).at(alloc, reading.index.span())?;
+            Ok(Some(reason))
+        }
+        None => Ok(Some(Cause::Bound(cause).alone(alloc))),
     }
 }
 
@@ -109,7 +104,7 @@ fn loops_reason(
     region: &Region,
     readings: &[Reading<'_>],
     turn: Name,
-) -> Result<Option<Reason>, AllocError> {
+) -> Result<Option<Reason>, Stop> {
     let function = root.stored.subject.name;
     if let Some(dimension) = uncounted(alloc, scope, region)? {
         let Some(variable) = root.stored.subject.variables.get(dimension) else {
@@ -120,7 +115,7 @@ fn loops_reason(
             variable: *variable,
             turn,
         });
-        return Ok(Some(at_first(alloc, readings, dimension, cause)?));
+        return at_first(alloc, readings, dimension, cause);
     }
     let needed = Needed {
         scope,
@@ -129,7 +124,7 @@ fn loops_reason(
     };
     if passes_limits(nests_over(alloc, root, needed))? {
         let cause = BoundCause::Turn(TurnCause::Forms { function, turn });
-        return Ok(Some(at_first(alloc, readings, first_cut(root), cause)?));
+        return at_first(alloc, readings, first_cut(root), cause);
     }
     Ok(None)
 }
@@ -147,7 +142,7 @@ fn sites_reason<'a>(
 ) -> Result<Option<Reason>, Stop> {
     let scope = scope_at(alloc, group, inners, spot)?;
     let region = region_at(alloc, root, &scope, sites)?;
-    Ok(loops_reason(alloc, root, &scope, &region, readings, turn)?)
+    loops_reason(alloc, root, &scope, &region, readings, turn)
 }
 
 // The same of all sites at the place, where there are some.
@@ -216,10 +211,10 @@ fn place_reason<'a>(
     inners: &[Inner<'a>],
     root: &Root<'a>,
 ) -> Result<Option<Reason>, Stop> {
-    for spot in spots_of(alloc, group, inners, root)? {
-        let found = spot_reason(alloc, algo, group, inners, root, spot)?;
-        if found.is_some() {
-            return Ok(found);
+    let spots = spots_of(alloc, group, inners, root)?;
+    for spot in &spots {
+        if let Some(reason) = spot_reason(alloc, algo, group, inners, root, *spot)? {
+            return Ok(Some(reason));
         }
     }
     Ok(None)
@@ -232,15 +227,15 @@ fn inner_reason<'a>(
     group: &Root<'a>,
     rest: &[Root<'a>],
     root: &Root<'a>,
-) -> Result<Reason, AllocError> {
+) -> Result<Option<Reason>, AllocError> {
     let cause = Cause::Bound(BoundCause::Turn(TurnCause::Unknown(root.stored.subject.name)));
     let found = match inners_of(alloc, algo, group, rest)? {
         Ok(inners) => place_reason(alloc, algo, group, &inners, root),
         Err(_) => Err(Stop::Limit),
     };
     match found {
-        Ok(Some(reason)) => Ok(reason),
-        Ok(None) | Err(Stop::Limit) => Ok(cause.alone(alloc)),
+        Ok(Some(reason)) => Ok(Some(reason)),
+        Ok(None) | Err(Stop::Limit) => Ok(Some(cause.alone(alloc))),
         Err(Stop::Memory) => Err(AllocError),
     }
 }
@@ -255,6 +250,19 @@ fn place_named(functions: &[Root<'_>], name: &Name) -> Option<usize> {
     None
 }
 
+// The first function of which bounds are missing in the loops of this group.
+fn missing_in<'a>(
+    alloc: Global,
+    algo: &Algo,
+    group: &Root<'a>,
+    functions: &[Root<'a>],
+) -> Result<Option<Name>, AllocError> {
+    match inners_of(alloc, algo, group, functions)? {
+        Ok(_) => Ok(None),
+        Err(missing) => Ok(Some(missing)),
+    }
+}
+
 // Why bounds of a function are missing, if they are missing of it in the loops of this group.
 fn missing_turn<'a>(
     alloc: Global,
@@ -263,18 +271,34 @@ fn missing_turn<'a>(
     functions: &[Root<'a>],
     name: &Name,
 ) -> Result<Option<Reason>, AllocError> {
-    match inners_of(alloc, algo, group, functions)? {
-        Err(missing) if missing.as_str() == name.as_str() => {
+    match missing_in(alloc, algo, group, functions)? {
+        Some(missing) if missing.as_str() == name.as_str() => {
             let Some(place) = place_named(functions, name) else {
                 return Ok(None);
             };
             let Some([one, rest @ ..]) = functions.get(place..) else {
                 return Ok(None);
             };
-            Ok(Some(inner_reason(alloc, algo, group, rest, one)?))
+            inner_reason(alloc, algo, group, rest, one)
         }
         _ => Ok(None),
     }
+}
+
+// The same of the first of these groups in whose loops they are missing.
+fn first_turn<'a>(
+    alloc: Global,
+    algo: &Algo,
+    groups: &[Root<'a>],
+    functions: &[Root<'a>],
+    name: &Name,
+) -> Result<Option<Reason>, Stop> {
+    for group in groups {
+        if let Some(reason) = missing_turn(alloc, algo, group, functions, name)? {
+            return Ok(Some(reason));
+        }
+    }
+    Ok(None)
 }
 
 /// Why bounds of a function are missing that is computed inside the loops of a root function.
@@ -284,15 +308,10 @@ pub(crate) fn turn_reason<'a>(
     stored: &'a [Stored<'a>],
     laid: &'a [Option<Laid>],
     one: &Stored<'_>,
-) -> Result<Option<Reason>, AllocError> {
+) -> Result<Option<Reason>, Stop> {
     let functions = roots_of(alloc, stored, laid, false)?;
-    for group in roots_of(alloc, stored, laid, true)? {
-        let found = missing_turn(alloc, algo, &group, &functions, &one.subject.name)?;
-        if found.is_some() {
-            return Ok(found);
-        }
-    }
-    Ok(None)
+    let groups = roots_of(alloc, stored, laid, true)?;
+    first_turn(alloc, algo, &groups, &functions, &one.subject.name)
 }
 
 // ---- all turns
@@ -316,6 +335,21 @@ fn add_nests<'a>(
     add_readings(alloc, algo, root, number, outer, nests, None, callee, found)
 }
 
+// Those at which the nests of a root function do.
+fn add_root_nests<'a>(
+    alloc: Global,
+    algo: &Algo,
+    stored: &[Stored<'_>],
+    root: &Root<'a>,
+    callee: &str,
+    found: &mut Vec<Reading<'a>>,
+) -> Result<(), Stop> {
+    let skeleton = &root.laid.skeleton;
+    let outer = head_scope(alloc, skeleton)?;
+    let nests = &skeleton.nests;
+    add_nests(alloc, algo, stored, root, &outer, nests, callee, found)
+}
+
 // The indices at which the nests of a party call a function, but for its own.
 fn add_party<'a>(
     alloc: Global,
@@ -325,19 +359,7 @@ fn add_party<'a>(
     callee: &str,
     found: &mut Vec<Reading<'a>>,
 ) -> Result<(), Stop> {
-    let skeleton = &party.root.laid.skeleton;
-    let outer = head_scope(alloc, skeleton)?;
-    let nests = &skeleton.nests;
-    add_nests(
-        alloc,
-        algo,
-        stored,
-        &party.root,
-        &outer,
-        nests,
-        callee,
-        found,
-    )?;
+    add_root_nests(alloc, algo, stored, &party.root, callee, found)?;
     let Ok(inners) = &party.inners else {
         return Ok(());
     };
@@ -375,8 +397,8 @@ fn turned_readings<'a>(
 // The last function that had a region and has none now, from one of them on.
 fn last_missing(known: &[Option<Laid>], made: &[Option<Laid>], number: usize) -> Option<usize> {
     let mut found = None;
-    for (place, (one, other)) in known.iter().zip(made.iter()).enumerate() {
-        if place >= number && one.is_some() && other.is_none() {
+    for (place, one) in known.iter().enumerate() {
+        if place >= number && one.is_some() && matches!(made.get(place), Some(None)) {
             found = Some(place);
         }
     }
