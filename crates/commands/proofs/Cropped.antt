@@ -13,8 +13,11 @@ use Rattle.crop.specs.Scene.{IsNoScene, IsRefusedScene}
 use Rattle.crop.specs.Tiling.{IsPartition, fits_side, rect_at, tiling_in, tiling_of}
 use Rattle.crop.specs.Tiling as tiles
 use Rattle.commands.specs.declared.pipeline.fault.Fault.{Fault}
-use Rattle.commands.specs.Crops.{IsPastLimit, IsSceneRefused, IsUncut}
+use Rattle.commands.specs.Asked.{AskedCrop}
+use Rattle.commands.specs.Crops.{IsCropped, IsDone, IsPastLimit, IsRefused, IsSceneFile, IsSceneRefused, IsTileFile, IsTilePut, IsTileUnput, IsUncut}
+use Rattle.commands.specs.Files.{Contents, SameFiles}
 use Rattle.commands.specs.Pipeline.Faults.{crop_fault, scene_fault}
+use Rattle.commands.proofs.Kept.{others_then, same_then}
 
 -- each error of the text is the program's refusal
 pub scene_refused : (text : List ℕ) (e : SceneError) → IsRefusedScene text e → IsNoScene text e → IsSceneRefused text (scene_fault e)
@@ -32,6 +35,20 @@ uncut_of a rect (Limit name) h = inl tt
 pub past_limit : (a : Algorithm) (rect : Rect) (fault : Fault) → IsInside a.output_extents rect → IsUncut a rect fault → IsPastLimit fault
 past_limit a rect fault inside (inl h) = h
 past_limit a rect fault inside (inr h) = absurd (h.1 inside)
+
+-- ---- the files stay as they are until the text is put
+
+module _ (old : Contents) (a : AskedCrop) (x : Algorithm) (file : IsSceneFile old a.algorithm x) (mid : Contents) (same : SameFiles old mid) where
+  cropped : (bytes : List ℕ) → IsTileFile x a.rect bytes → IsCropped old a bytes
+  cropped bytes h = record { algorithm = x; part = h.0; file = file; tile = h.1 }
+
+  pub tile_refused : (new : Contents) (fault : Fault) → IsTileUnput mid new a x fault → IsRefused old new a fault
+  tile_refused new fault (inl (kept, inl device)) = inl (same_then old mid new same kept, inl device)
+  tile_refused new fault (inl (kept, inr uncut)) = inl (same_then old mid new same kept, inr (inr (record { algorithm = x; file = file; refused = uncut })))
+  tile_refused new fault (inr h) = inr (h.0, others_then old mid new a.output same h.1, (h.2.0, cropped h.2.0 h.2.1))
+
+  pub tile_put : (new : Contents) → IsTilePut mid new a x → IsDone old new a
+  tile_put new h = (h.0, cropped h.0 h.1, (h.2.0, others_then old mid new a.output same h.2.1))
 
 -- ---- tiles lie in the output
 

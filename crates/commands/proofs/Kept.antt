@@ -6,8 +6,8 @@ use Rattle.commands.specs.declared.pipeline.fault.Fault.{Fault}
 use Rattle.commands.specs.Pipeline.Pictures.{IsDone}
 use Rattle.commands.specs.declared.device.FileError.{FileError}
 use Rattle.commands.specs.declared.device.FileError.TheVariants.{Device, Memory}
-use Rattle.commands.specs.Files.{Contents, Holds, SameFiles, SameOthers}
-use Rattle.commands.specs.Pictures.{IsOfDevice}
+use Rattle.commands.specs.Files.{Contents, Holds, IsPut, Puts, SameFiles, SameOthers}
+use Rattle.commands.specs.Pictures.{IsOfDevice, IsUnput}
 use Rattle.commands.specs.Status.{fault_of}
 
 pub same_refl : (a : Contents) → SameFiles a a
@@ -31,6 +31,14 @@ others_then None b c name h k = tt
 others_then (Some at) None c name h k = absurd h
 others_then (Some at) (Some now) None name h k = absurd k
 others_then (Some at) (Some now) (Some last) name h k = λ other differs. k other differs ∙ h other
+
+-- bytes were made while all files stayed, and were put, or not
+module _ (old mid new : Contents) (name : List ℕ) (Is : List ℕ → Type 0) (bytes : List ℕ) (same : SameFiles old mid) (made : Is bytes) where
+  pub put_then : Puts mid new name bytes → IsPut old new name Is
+  put_then put = (bytes, made, (put.0, others_then old mid new name same put.1))
+
+  pub unput_then : (Why : Fault → Type 0) (fault : Fault) → IsOfDevice fault × SameOthers mid new name → IsUnput old new name Is Why fault
+  unput_then Why fault kept = inr (kept.0, others_then old mid new name same kept.1, (bytes, made))
 
 -- a file's error is of the device or of memory
 pub of_device : (e : FileError) (fault : Fault) → fault ≡ fault_of e → IsOfDevice fault

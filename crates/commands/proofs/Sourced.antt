@@ -19,7 +19,8 @@ use Rattle.commands.specs.Means.{AreMeans, IsAfforded, IsOfFile, algo_meant}
 use Rattle.commands.specs.Pictures as pictures
 use Rattle.commands.specs.Pictures.{HasPlanFile, IsOfDevice, IsPlanFault}
 use Rattle.commands.specs.Replays as replays
-use Rattle.commands.specs.Sources.{IsAlgorithmFile, IsFileOfOrder, IsFormattedText, IsImageFile, IsNoAlgorithmFile, IsNoImageFile, IsPictureOf, IsPlayable, IsUnformatted, IsUnmade, IsUnplayed}
+use Rattle.commands.specs.Sources.{IsAlgorithmFile, IsDrawingOf, IsDrawingPut, IsDrawingUnput, IsFileOfOrder, IsFormattedText, IsImageFile, IsNoAlgorithmFile, IsNoImageFile, IsPictureOf}
+use Rattle.commands.specs.Sources.{IsPicturePut, IsPictureUnput, IsPlayable, IsUndrawn, IsUnformatted, IsUnmade, IsUnplayed}
 use Rattle.commands.proofs.Drawn.{ordered_before, unordered_before}
 use Rattle.commands.proofs.Formatted.{not_spelled}
 use Rattle.commands.proofs.Kept.{held_before, others_then, same_then}
@@ -78,9 +79,6 @@ module _ (old : Contents) (a : AskedPicture) where
       refused = stopped;
     }))))
 
-    pub picture_unmade : (new : Contents) (fault : Fault) → SameFiles mid new → IsUnmade mid a x fault → pictures.IsRefused old new a fault
-    picture_unmade new fault then h = inl (same_then old mid new same then, unmade fault h)
-
     made : (bytes : List ℕ) → IsPictureOf mid a x bytes → pictures.IsPicture old a bytes
     made bytes h = record {
       text = said.0;
@@ -96,14 +94,12 @@ module _ (old : Contents) (a : AskedPicture) where
       whole = h.whole;
     }
 
-    module _ (last new : Contents) (bytes : List ℕ) (then : SameFiles mid last) (h : IsPictureOf mid a x bytes) where
-      pub picture_kept : (fault : Fault) → IsOfDevice fault → SameOthers last new a.output → pictures.IsRefused old new a fault
-      picture_kept fault device others = inr (device, others_then old last new a.output (same_then old mid last same then) others, (bytes, made bytes h))
+    pub picture_refused : (new : Contents) (fault : Fault) → IsPictureUnput mid new a x fault → pictures.IsRefused old new a fault
+    picture_refused new fault (inl h) = inl (same_then old mid new same h.0, unmade fault h.1)
+    picture_refused new fault (inr h) = inr (h.0, others_then old mid new a.output same h.1, (h.2.0, made h.2.0 h.2.1))
 
-      pub picture_put : (written : List ℕ) → written ≡ bytes → Puts last new a.output written → pictures.IsDone old new a
-      picture_put written is put =
-          let whole = subst (λ file. pictures.IsPicture old a file) (sym is) (made bytes h) in
-          (written, whole, (put.0, others_then old last new a.output (same_then old mid last same then) put.1))
+    pub picture_put : (new : Contents) → IsPicturePut mid new a x → pictures.IsDone old new a
+    picture_put new h = (h.0, made h.0 h.1, (h.2.0, others_then old mid new a.output same h.2.1))
 
 -- the file of a picture that was computed by these means
 pub written_by : (files : Contents) (a : AskedPicture) (m : Means) (algo : Algo) (samples : List ℕ) → algo_meant m ≡ algo → AreMeans files a.way (algorithm_of algo) m
@@ -180,18 +176,30 @@ module _ (old mid : Contents) (a : AskedFormat) (text : List ℕ) (same : SameFi
 
 -- ---- drawings
 
-module _ (old : Contents) (a : AskedDraw) (checked : checks.IsChecked old a.check) (mid : Contents) (same : SameFiles old mid) where
-  pub not_drawn : (new : Contents) (fault : Fault) → SameFiles mid new → IsOfDevice fault ⊎ draws.IsUnordered mid a.order fault → draws.IsRefused old new a fault
-  not_drawn new fault then (inl device) = inl (same_then old mid new same then, inl device)
-  not_drawn new fault then (inr h) =
-      inl (same_then old mid new same then, inr (inr (record { checked = checked; refused = unordered_before old mid a.order fault same h })))
+-- it is drawn of a checked plan, and after an order that was known before
+pub drawing_by : (a b : Contents) (ask : AskedDraw) (x : Algorithm) (r : Result (Vec ℕ) Fault) → SameFiles a b → HasPlanFile a ask.check.plan x
+    → OnOk r (draws.HasOrder b ask.order) → IfOk r (λ file. draws.IsDrawingFile x file.items) → IfOk r (λ file. IsDrawingOf a ask x file.items)
+drawing_by a b ask x r same planned ordered drawn =
+    with_ok r _ _ _ ordered drawn (λ order file is. record { planned = planned; ordered = ordered_before a b ask.order same order; drawn = is })
 
-  module _ (last new : Contents) (bytes : List ℕ) (then : SameFiles mid last) (ordered : draws.HasOrder mid a.order) (is : draws.IsDrawingFile checked.algorithm bytes) where
-    drawn : draws.IsDrawn old a bytes
-    drawn = record { checked = checked; ordered = ordered_before old mid a.order same ordered; drawn = is }
+pub undrawn_before : (a b : Contents) (ask : AskedDraw) (x : Algorithm) (fault : Fault) → SameFiles a b → HasPlanFile a ask.check.plan x
+    → IsOfDevice fault ⊎ draws.IsUnordered b ask.order fault → IsUndrawn a ask x fault
+undrawn_before a b ask x fault same planned (inl device) = inr (planned, inl device)
+undrawn_before a b ask x fault same planned (inr h) = inr (planned, inr (unordered_before a b ask.order fault same h))
 
-    pub drawing_kept : (fault : Fault) → IsOfDevice fault → SameOthers last new a.output → draws.IsRefused old new a fault
-    drawing_kept fault device others = inr (device, others_then old last new a.output (same_then old mid last same then) others, (bytes, drawn))
+module _ (old : Contents) (a : AskedDraw) (x : Algorithm) (said : IsAlgorithmFile old a.check.algorithm x) (mid : Contents) (same : SameFiles old mid) where
+  undrawn : (fault : Fault) → IsUndrawn mid a x fault → draws.IsReason old a fault
+  undrawn fault (inl h) = inr (inl (check_refused old a.check x said mid same fault h))
+  undrawn fault (inr (planned, inl device)) = inl device
+  undrawn fault (inr (planned, inr h)) =
+      inr (inr (record { checked = is_checked old a.check x said mid same planned; refused = unordered_before old mid a.order fault same h }))
 
-    pub drawing_put : Puts last new a.output bytes → draws.IsDone old new a
-    drawing_put put = (bytes, drawn, (put.0, others_then old last new a.output (same_then old mid last same then) put.1))
+  drawn : (bytes : List ℕ) → IsDrawingOf mid a x bytes → draws.IsDrawn old a bytes
+  drawn bytes h = record { checked = is_checked old a.check x said mid same h.planned; ordered = ordered_before old mid a.order same h.ordered; drawn = h.drawn }
+
+  pub drawing_refused : (new : Contents) (fault : Fault) → IsDrawingUnput mid new a x fault → draws.IsRefused old new a fault
+  drawing_refused new fault (inl h) = inl (same_then old mid new same h.0, undrawn fault h.1)
+  drawing_refused new fault (inr h) = inr (h.0, others_then old mid new a.output same h.1, (h.2.0, drawn h.2.0 h.2.1))
+
+  pub drawing_put : (new : Contents) → IsDrawingPut mid new a x → draws.IsDone old new a
+  drawing_put new h = (h.0, drawn h.0 h.1, (h.2.0, others_then old mid new a.output same h.2.1))

@@ -1,6 +1,7 @@
 -- Tiles of a list, and files of kinds.
 use Rattle.std.proofs.Common.{◌≡◌, ◌≢◌, ◌⊎◌, ◌∙◌, ap, sym, subst, refl, ℕ, suc, zero, ◌+◌, ◌<◌, ◌≤◌, ◌^◌, Bool, true, false, cond, List, [], ◌∷◌, ◌++◌, length, map, codes, slice_get, Option, None, Some, inl, inr, arith}
-use Rattle.std.specs.Prelude.{decimal, get_or, option_map, string_bytes}
+use Rattle.std.proofs.Common.{Result, Ok, Err}
+use Rattle.std.specs.Prelude.{IfErr, OnErr, decimal, get_or, option_map, string_bytes}
 use Rattle.std.specs.declared.string.String.{String}
 use Rattle.std.specs.Global.{Global}
 use Rattle.std.specs.Str.{bytes_eq}
@@ -18,8 +19,13 @@ use Rattle.crop.specs.Tiling.{rect_at}
 use Rattle.crop.specs.declared.cropping.Rect.{Rect}
 use Rattle.crop.specs.declared.tiling.Tiling.{Tiling}
 use Rattle.commands.specs.declared.tiles_command.Tiles.{Tiles}
+use Rattle.commands.specs.declared.pipeline.fault.Fault.{Fault}
+use Rattle.commands.specs.Asked.{AskedTiles}
+use Rattle.commands.specs.Crops.{IsSceneFile}
 use Rattle.commands.specs.Files.{Contents, Holds, Puts, SameFiles, SameOthers}
-use Rattle.commands.specs.Tilings.{AllPut, ArePut, AreFirst, AreLines, HoldsFirst, IsAdded, IsLine, IsTileName, KeepsKinds, Line, SameBeside, kind_name, kinds_of, line_text, list_name, list_text}
+use Rattle.commands.specs.Tilings.{AllPut, ArePut, AreFirst, AreLines, HoldsFirst, IsAdded, IsCutBy, IsCutInto, IsCutPut, IsCutUnput, IsCutUp, IsDone, IsLine, IsRefused, IsTileName, KeepsKinds, Line}
+use Rattle.commands.specs.Tilings.{SameBeside, kind_name, kinds_of, line_text, list_name, list_text}
+use Rattle.commands.proofs.Kept.{same_then}
 
 -- ---- lines
 
@@ -253,3 +259,35 @@ beside_as old new folder kinds same is h = subst (λ ks. SameBeside old new fold
 pub put_as : (old new : Contents) (folder : Text) (kinds same : List (String Global)) → kinds ≡ same → ArePut old new folder (map string_bytes kinds)
     → ArePut old new folder (map string_bytes same)
 put_as old new folder kinds same is h = subst (λ ks. ArePut old new folder (map string_bytes ks)) is h
+
+-- what is known of an error from two clauses
+pub with_err : {T : Type 0} (r : Result T Fault) (A : Type 0) (P Q : Fault → Type 0) → OnErr r A → IfErr r P → (A → (fault : Fault) → P fault → Q fault) → IfErr r Q
+with_err (Ok x) A P Q a p f = tt
+with_err (Err e) A P Q a p f = f a e p
+
+-- the tiles that were made are those of the sides that are asked for
+abbrev pub cut_by : (a : AskedTiles) (x : Algorithm) (tiles : Tiles) (cut : IsCutInto x a.width a.height tiles) → IsCutBy a x (kinds_of tiles) cut.all.lines
+cut_by a x tiles cut = record { tiling = cut.tiling; is_tiling = cut.is_tiling; mosaic = cut.mosaic; are_lines = cut.all.are_lines }
+
+-- the files stay as they are until the kinds are put
+module _ (old : Contents) (a : AskedTiles) (x : Algorithm) (file : IsSceneFile old a.algorithm x) (mid : Contents) (same : SameFiles old mid) where
+  cut_up : (kinds : List (List ℕ)) (lines : List Line) → IsCutBy a x kinds lines → IsCutUp old a kinds lines
+  cut_up kinds lines h = record { algorithm = x; tiling = h.tiling; file = file; is_tiling = h.is_tiling; mosaic = h.mosaic; are_lines = h.are_lines }
+
+  pub cut_put : (new : Contents) → IsCutPut mid new a x → IsDone old new a
+  cut_put new h = record {
+    kinds = h.0;
+    lines = h.1;
+    cut = cut_up h.0 h.1 h.2;
+    put = all_put old mid new a.folder h.0 (list_text h.1) (list_text h.1) same h.3 refl;
+  }
+
+  pub cut_refused : (new : Contents) (fault : Fault) → IsCutUnput mid new a x fault → IsRefused old new a fault
+  cut_refused new fault (inl h) = inl (same_then old mid new same h.0, inr (inr (record { algorithm = x; file = file; refused = h.1 })))
+  cut_refused new fault (inr h) = inr (record {
+    kinds = h.0;
+    lines = h.1;
+    cut = cut_up h.0 h.1 h.2;
+    device = h.3.0;
+    others = same_beside old mid new a.folder (length h.0) same h.3.1;
+  })

@@ -12,9 +12,9 @@ use Rattle.crop.specs.Tile.{IsTileOf}
 use Rattle.commands.specs.declared.pipeline.fault.Fault.{Fault}
 use Rattle.commands.specs.declared.pipeline.fault.Fault.TheVariants.{Memory, Algo, Outside, Uncut}
 use Rattle.commands.specs.Asked.{AskedCrop}
-use Rattle.commands.specs.Files.{Contents, Holds, Puts, SameFiles, SameOthers}
+use Rattle.commands.specs.Files.{Contents, Holds, IsPut, Puts, SameFiles, SameOthers}
 use Rattle.commands.specs.Formats.{IsCanonical}
-use Rattle.commands.specs.Pictures.{IsOfDevice}
+use Rattle.commands.specs.Pictures.{IsOfDevice, IsUnput}
 
 -- ---- the algorithm's text
 
@@ -95,3 +95,17 @@ IsNotPut old new a fault = IsOfDevice fault × SameOthers old new a.output × ((
 -- nothing was put, for a reason; or all else had succeeded, and all files but the text are as before
 abbrev pub IsRefused : Contents → Contents → AskedCrop → Fault → Type 0
 IsRefused old new a fault = (SameFiles old new × IsReason old a.algorithm (λ x. IsUncut x a.rect fault) fault) ⊎ IsNotPut old new a fault
+
+-- ---- of an algorithm that was read
+
+-- the bytes are the text of its tile at the rectangle
+abbrev pub IsTileFile : Algorithm → Rect → List ℕ → Type 0
+IsTileFile a rect bytes = (part : List Stretch) × IsTileText a rect part bytes
+
+-- the text was put, and nothing else
+abbrev pub IsTilePut : Contents → Contents → AskedCrop → Algorithm → Type 0
+IsTilePut old new a x = IsPut old new a.output (IsTileFile x a.rect)
+
+-- why it was not put, and what stands then
+abbrev pub IsTileUnput : Contents → Contents → AskedCrop → Algorithm → Fault → Type 0
+IsTileUnput old new a x fault = IsUnput old new a.output (IsTileFile x a.rect) (λ fault. IsOfDevice fault ⊎ IsUncut x a.rect fault) fault

@@ -25,3 +25,7 @@ SameOthers (Some at) (Some now) name = (other : List ℕ) → other ≢ name →
 -- the file of this name has these bytes, and all others are as before
 abbrev pub Puts : Contents → Contents → List ℕ → List ℕ → Type 0
 Puts old new name bytes = Holds new name bytes × SameOthers old new name
+
+-- the file of this name has bytes of which this holds, and all others are as before
+abbrev pub IsPut : Contents → Contents → List ℕ → (List ℕ → Type 0) → Type 0
+IsPut old new name Is = (bytes : List ℕ) × Is bytes × Puts old new name bytes

@@ -4,7 +4,7 @@ use Rattle.tree.specs.Token.Lexical.{max_text}
 use Rattle.meaning.specs.Algorithm.{Algorithm}
 use Rattle.algo.specs.Refusal.{IsAlgorithmText}
 use Rattle.algo.specs.declared.error.Code.TheVariants.{TooLarge}
-use Rattle.printer.specs.Written.{HasNoText, canonical_text}
+use Rattle.printer.specs.Written.{canonical_text}
 use Rattle.commands.specs.declared.pipeline.fault.Fault.{Fault}
 use Rattle.commands.specs.declared.pipeline.fault.Fault.TheVariants.{Algo}
 use Rattle.commands.specs.Asked.{AskedFormat}
@@ -21,9 +21,9 @@ IsCanonical a bytes = (bytes ≡ canonical_text a) × IsAlgorithmText bytes a
 abbrev pub IsTooLong : Algorithm → ℕ → Fault → Type 0
 IsTooLong a n fault = (max_text < length (canonical_text a)) × (fault ≡ Algo TooLarge (record { start = 0; end = n }))
 
--- why there is none: no text at all stands for the algorithm, or it is too long
+-- why there is none: it is too long
 abbrev pub IsNotSpelled : Algorithm → ℕ → Fault → Type 0
-IsNotSpelled a n fault = IsOfDevice fault ⊎ (HasNoText a ⊎ IsTooLong a n fault)
+IsNotSpelled a n fault = IsOfDevice fault ⊎ IsTooLong a n fault
 
 -- ---- what is done
 

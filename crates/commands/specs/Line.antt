@@ -55,16 +55,19 @@ by_first_rule = record (new_rule (codes "by-first")) { long = Some (codes "by-fi
 abbrev pub compare_line : App
 compare_line = with_rule named_compare_line by_first_rule
 
--- --workers N, which may be left out
-abbrev pub workers_rule : Rule
-workers_rule = record (new_rule (codes "workers")) { long = Some (codes "workers"); value_names = 1 }
+-- --NAME VALUE, which may be left out
+abbrev pub valued : Text → Rule
+valued name = record (new_rule name) { long = Some name; value_names = 1 }
 
--- --at-most N and --order ORDER, which may be left out
+-- --workers N, --at-most N and --order ORDER
+abbrev pub workers_rule : Rule
+workers_rule = valued (codes "workers")
+
 abbrev pub at_most_rule : Rule
-at_most_rule = record (new_rule (codes "at-most")) { long = Some (codes "at-most"); value_names = 1 }
+at_most_rule = valued (codes "at-most")
 
 abbrev pub order_rule : Rule
-order_rule = record (new_rule (codes "order")) { long = Some (codes "order"); value_names = 1 }
+order_rule = valued (codes "order")
 
 abbrev pub plain_line : App
 plain_line = with_rule named_plain_line at_most_rule

@@ -30,6 +30,10 @@ use Rattle.commands.specs.Files.{Contents, Holds, Puts, SameFiles, SameOthers}
 abbrev pub IsOfDevice : Fault → Type 0
 IsOfDevice fault = (fault ≡ Memory) ⊎ (fault ≡ Image Device)
 
+-- nothing was put, for a reason; or bytes of which this holds were made and could not be put, and all other files are as before
+abbrev pub IsUnput : Contents → Contents → Text → (List ℕ → Type 0) → (Fault → Type 0) → Fault → Type 0
+IsUnput old new name Is Why fault = (SameFiles old new × Why fault) ⊎ (IsOfDevice fault × SameOthers old new name × ((bytes : List ℕ) × Is bytes))
+
 -- the bytes are no text, or the text of a plan file that is refused
 abbrev pub IsFileFault : Algorithm → List ℕ → Fault → Type 0
 IsFileFault a bytes fault = IsOfDevice fault ⊎ IsFileRefused a bytes fault

@@ -8,12 +8,12 @@ use Rattle.algo.specs.View.{picture_said}
 use Rattle.pnm.specs.Reading.{reading, wanted_of}
 use Rattle.pnm.specs.Text.{text_of}
 use Rattle.commands.specs.declared.pipeline.fault.Fault.{Fault}
-use Rattle.commands.specs.Asked.{AskedPicture, AskedReplay}
-use Rattle.commands.specs.Draws.{IsNoOrderFile, IsOrderFile}
-use Rattle.commands.specs.Files.{Contents, Holds}
+use Rattle.commands.specs.Asked.{AskedDraw, AskedPicture, AskedReplay}
+use Rattle.commands.specs.Draws.{HasOrder, IsDrawingFile, IsNoOrderFile, IsOrderFile, IsUnordered}
+use Rattle.commands.specs.Files.{Contents, Holds, IsPut}
 use Rattle.commands.specs.Formats.{IsCanonical, IsNotSpelled}
 use Rattle.commands.specs.Order.Order.{IsOrder}
-use Rattle.commands.specs.Pictures.{IsAffordable, IsImageFault, IsOfDevice, IsReady, IsStopped, IsTextFault, IsUnready}
+use Rattle.commands.specs.Pictures.{HasPlanFile, IsAffordable, IsImageFault, IsOfDevice, IsPlanFault, IsReady, IsStopped, IsTextFault, IsUnput, IsUnready}
 
 -- ---- one file
 
@@ -65,6 +65,33 @@ IsStoppedAt files a algorithm fault = (samples : List ℕ) × IsImageFile files 
 abbrev pub IsUnmade : Contents → AskedPicture → Algorithm → Fault → Type 0
 IsUnmade files a algorithm fault =
     IsUnready files a.way algorithm fault ⊎ ((IsReady files a.way algorithm × IsNoImageFile files a.input algorithm fault) ⊎ IsStoppedAt files a algorithm fault)
+
+-- the picture was put, and nothing else
+abbrev pub IsPicturePut : Contents → Contents → AskedPicture → Algorithm → Type 0
+IsPicturePut old new a algorithm = IsPut old new a.output (IsPictureOf old a algorithm)
+
+-- why it was not put, and what stands then
+abbrev pub IsPictureUnput : Contents → Contents → AskedPicture → Algorithm → Fault → Type 0
+IsPictureUnput old new a algorithm fault = IsUnput old new a.output (IsPictureOf old a algorithm) (IsUnmade old a algorithm) fault
+
+-- the bytes are the image file of a drawing of a plan of the algorithm, after the order that is asked for
+pub record IsDrawingOf (files : Contents) (a : AskedDraw) (algorithm : Algorithm) (bytes : List ℕ) : Type 0 where
+  pub planned : HasPlanFile files a.check.plan algorithm
+  pub ordered : HasOrder files a.order
+  pub drawn : IsDrawingFile algorithm bytes
+
+-- why there is no such drawing
+abbrev pub IsUndrawn : Contents → AskedDraw → Algorithm → Fault → Type 0
+IsUndrawn files a algorithm fault =
+    IsPlanFault files a.check.plan algorithm fault ⊎ (HasPlanFile files a.check.plan algorithm × (IsOfDevice fault ⊎ IsUnordered files a.order fault))
+
+-- the drawing was put, and nothing else
+abbrev pub IsDrawingPut : Contents → Contents → AskedDraw → Algorithm → Type 0
+IsDrawingPut old new a algorithm = IsPut old new a.output (IsDrawingOf old a algorithm)
+
+-- why it was not put, and what stands then
+abbrev pub IsDrawingUnput : Contents → Contents → AskedDraw → Algorithm → Fault → Type 0
+IsDrawingUnput old new a algorithm fault = IsUnput old new a.output (IsDrawingOf old a algorithm) (IsUndrawn old a algorithm) fault
 
 -- an order can be replayed on the algorithm's image
 abbrev pub IsPlayable : Contents → AskedReplay → Algorithm → Type 0

@@ -122,6 +122,13 @@ pub record IsCutInto (a : Algorithm) (width height : ℕ) (tiles : Tiles) : Type
   pub mosaic : IsMosaic a tiling
   pub all : AreTiles a tiling tiles
 
+-- the kinds and lines are those of the tiles of the algorithm, of the sides that are asked for
+pub record IsCutBy (a : AskedTiles) (x : Algorithm) (kinds : List (List ℕ)) (lines : List Line) : Type 0 where
+  pub tiling : Tiling
+  pub is_tiling : tiling_of x.output_extents a.width a.height ≡ Some tiling
+  pub mosaic : IsMosaic x tiling
+  pub are_lines : AreLines x tiling (tile_count tiling) kinds lines
+
 -- ---- what is done
 
 -- the kinds and lines are those of the tiles of the file's algorithm; the tiles' pictures, put together, are its picture
@@ -186,3 +193,18 @@ pub record IsNotPut (old new : Contents) (a : AskedTiles) (fault : Fault) : Type
 -- nothing was put, for a reason; or all tiles had been made, and all files but theirs are as before
 abbrev pub IsRefused : Contents → Contents → AskedTiles → Fault → Type 0
 IsRefused old new a fault = (SameFiles old new × IsReason old a.algorithm (λ x. IsUntiled x a.width a.height fault) fault) ⊎ IsNotPut old new a fault
+
+-- ---- of an algorithm that was read
+
+-- the list and the kinds of its tiles were put, and nothing else
+abbrev pub IsCutPut : Contents → Contents → AskedTiles → Algorithm → Type 0
+IsCutPut old new a x = (kinds : List (List ℕ)) × (lines : List Line) × IsCutBy a x kinds lines × AllPut old new a.folder kinds (list_text lines)
+
+-- its tiles were made, and a file could not be put
+abbrev pub IsCutKept : Contents → Contents → AskedTiles → Algorithm → Fault → Type 0
+IsCutKept old new a x fault =
+    (kinds : List (List ℕ)) × (lines : List Line) × IsCutBy a x kinds lines × (IsOfDevice fault × SameBeside old new a.folder (length kinds))
+
+-- why they were not all put, and what stands then
+abbrev pub IsCutUnput : Contents → Contents → AskedTiles → Algorithm → Fault → Type 0
+IsCutUnput old new a x fault = (SameFiles old new × IsUntiled x a.width a.height fault) ⊎ IsCutKept old new a x fault

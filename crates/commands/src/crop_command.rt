@@ -4,13 +4,13 @@ ghost use Rattle.std.specs.Prelude.{◌≡◌, ◌⊎◌, IfErr, IfOk, OnOk, opt
 ghost use Rattle.algo.specs.View.{algorithm_of};
 ghost use Rattle.crop.specs.Scene.{IsSceneText, scene_of};
 ghost use Rattle.commands.specs.Asked.{crop_asked};
-ghost use Rattle.commands.specs.Crops.{IsDone, IsPastLimit, IsRefused, IsSceneFault, IsSceneFile, IsSceneRefused, IsUncut, TextRefused};
+ghost use Rattle.commands.specs.Crops.{IsDone, IsPastLimit, IsRefused, IsSceneFault, IsSceneFile, IsSceneRefused, IsTilePut, IsTileUnput, IsUncut, TextRefused};
 ghost use Rattle.commands.specs.Files.{SameFiles};
 ghost use Rattle.commands.specs.Formats.{IsCanonical};
 ghost use Rattle.commands.specs.Pictures.{IsOfDevice};
 ghost use Rattle.commands.specs.Tilings.{IsTileAt, extent_told, part_told, place_told};
 
-use crate::device::Files;
+use crate::device::{Files, put_file};
 use crate::pipeline::Fault;
 use crate::request::CropRequest;
 use crate::stream::flush;
@@ -23,7 +23,7 @@ use std::io::{Error, Write};
 
 /// A part of the input, as it is told: its low corner and its extents, in samples; 0 and 1 in the second place where the
 /// input has one dimension.
-#[derive(Clone, Copy, PartialEq, Eq, Drop)]
+#[derive(Clone, Copy, Drop)]
 pub(crate) struct Part {
     pub x: u32,
     pub y: u32,
@@ -64,8 +64,7 @@ pub(crate) fn scene_file<F: Files>(alloc: Global, files: &mut F, name: &str) -> 
     ensures same { SameFiles (F.contents files.old) (F.contents files.new) }
 {
     let bytes = files.get(alloc, name)?;
-    let scene = scene_in(alloc, bytes.as_slice())?;
-    Ok(scene)
+    scene_in(alloc, bytes.as_slice())
 }
 
 /// The refusal of an algorithm whose text passes a limit.
@@ -147,6 +146,41 @@ fn tell<W: Write>(out: &mut W, name: &str, part: Part) -> Result<(), Fault>
     }
 }
 
+/// The same beside a text of that name: on standard error where the text goes to standard output.
+fn tell_beside<W: Write, E: Write>(
+    out: &mut W,
+    err: &mut E,
+    output: &str,
+    name: &str,
+    part: Part,
+) -> Result<(), Fault>
+    ensures { IfErr result IsOfDevice }
+{
+    if output == "-" {
+        tell(err, name, part)
+    } else {
+        tell(out, name, part)
+    }
+}
+
+/// Tells the part of the tile that is asked for, and writes its text last.
+fn put_tile<F: Files, W: Write, E: Write>(
+    alloc: Global,
+    files: &mut F,
+    out: &mut W,
+    err: &mut E,
+    scene: &Scene,
+    request: &CropRequest<'_>,
+) -> Result<(), Fault>
+    ensures done { OnOk result (IsTilePut (F.contents files.old) (F.contents files.new) (crop_asked request.now) (scene_of scene.now)) }
+    ensures refused { IfErr result (IsTileUnput (F.contents files.old) (F.contents files.new) (crop_asked request.now) (scene_of scene.now)) }
+{
+    let tile = tile_at(alloc, scene, request.rect)?;
+    let name = scene.algo().input().name.as_str();
+    tell_beside(out, err, request.output, name, tile.part)?;
+    put_file(files, request.output, tile.text.as_bytes())
+}
+
 /// Writes the canonical text of the algorithm of a tile of the output, and tells which part of the input it reads: on
 /// standard error where the text itself goes to standard output. The text is written last, after everything else has
 /// succeeded.
@@ -165,13 +199,5 @@ pub fn crop_command<F: Files, W: Write, E: Write>(
     ensures refused { IfErr result (IsRefused (F.contents files.old) (F.contents files.new) (crop_asked request.now)) }
 {
     let scene = scene_file(alloc, files, request.algorithm)?;
-    let tile = tile_at(alloc, &scene, request.rect)?;
-    let name = scene.algo().input().name.as_str();
-    if request.output == "-" {
-        tell(err, name, tile.part)?;
-    } else {
-        tell(out, name, tile.part)?;
-    }
-    files.put(request.output, tile.text.as_bytes())?;
-    Ok(())
+    put_tile(alloc, files, out, err, &scene, request)
 }

@@ -1,8 +1,9 @@
 //! Files by their names.
 
-ghost use Rattle.std.specs.Prelude.{◌≡◌, ℕ, List, Option, None, IfOk, OnErr, OnOk};
+ghost use Rattle.std.specs.Prelude.{◌≡◌, ℕ, List, Option, None, IfErr, IfOk, OnErr, OnOk};
 ghost use Rattle.commands.specs.declared.pipeline.fault.Fault.{Fault};
 ghost use Rattle.commands.specs.Files.{Holds, Puts, SameFiles, SameOthers};
+ghost use Rattle.commands.specs.Pictures.{IsOfDevice};
 ghost use Rattle.commands.specs.Status.{fault_of};
 
 use crate::pipeline::Fault;
@@ -11,7 +12,7 @@ use pnm::PnmError;
 use std::alloc::Global;
 
 /// Why a file is not read or written.
-#[derive(Clone, Copy, Debug, PartialEq, Eq, Drop)]
+#[derive(Clone, Copy, Drop)]
 pub enum FileError {
     /// It can't be opened, read or written.
     Device,
@@ -60,4 +61,13 @@ pub trait Files {
     fn put(&mut self, name: &str, bytes: &[u8]) -> Result<(), FileError>
         ensures put { OnOk result (Puts (contents self.old) (contents self.new) name.now bytes.now) }
         ensures others { OnErr result (SameOthers (contents self.old) (contents self.new) name.now) };
+}
+
+/// Makes these the bytes of a file, as `Files::put` does, and answers a refusal of the program.
+pub fn put_file<F: Files>(files: &mut F, name: &str, bytes: &[u8]) -> Result<(), Fault>
+    ensures put { OnOk result (Puts (F.contents files.old) (F.contents files.new) name.now bytes.now) }
+    ensures kept { IfErr result (λ fault. IsOfDevice fault × SameOthers (F.contents files.old) (F.contents files.new) name.now) }
+{
+    files.put(name, bytes)?;
+    Ok(())
 }

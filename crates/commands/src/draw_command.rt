@@ -1,14 +1,15 @@
 //! The command that draws which piece owns each pixel.
 
 ghost use Rattle.std.specs.Prelude.{◌⊎◌, IfErr, IfOk, OnOk, option_map};
-ghost use Rattle.algo.specs.View.{IsFor};
+ghost use Rattle.algo.specs.View.{algorithm_of, IsFor};
 ghost use Rattle.checked_plan.specs.View.{algorithm_checked};
 ghost use Rattle.commands.specs.Asked.{draw_asked};
 ghost use Rattle.commands.specs.Draws.{HasOrder, IsDone, IsDrawingFile, IsNoOrderFile, IsOrderFile, IsRefused, IsUnordered};
 ghost use Rattle.commands.specs.Files.{SameFiles};
 ghost use Rattle.commands.specs.Pictures.{IsOfDevice};
+ghost use Rattle.commands.specs.Sources.{IsDrawingOf, IsDrawingPut, IsDrawingUnput, IsUndrawn};
 
-use crate::device::Files;
+use crate::device::{Files, put_file};
 use crate::picture::algorithm_file;
 use crate::pipeline::{Fault, State, replay};
 use crate::plan_command::plan_in;
@@ -111,6 +112,37 @@ fn drawn<F: Files>(
     Ok(drawing_file(alloc, checked, cells_of(crew.as_ref()))?)
 }
 
+/// The image file of the drawing that is asked for, of a plan of an algorithm.
+fn drawing_of<T: Threads + Sync, F: Files>(
+    rt: &T,
+    alloc: Global,
+    files: &mut F,
+    algo: &Algo,
+    request: &DrawRequest<'_>,
+) -> Result<Vec<u8>, Fault>
+    ensures same { SameFiles (F.contents files.old) (F.contents files.new) }
+    ensures drawn { IfOk result (λ file. IsDrawingOf (F.contents files.old) (draw_asked request.now) (algorithm_of algo.now) file.items) }
+    ensures refused { IfErr result (IsUndrawn (F.contents files.old) (draw_asked request.now) (algorithm_of algo.now)) }
+{
+    let checked = plan_in(rt, alloc, files, algo, request.check.plan)?;
+    drawn(alloc, files, &checked, request.order)
+}
+
+/// Writes this drawing, after everything else has succeeded.
+fn put_drawing<T: Threads + Sync, F: Files>(
+    rt: &T,
+    alloc: Global,
+    files: &mut F,
+    algo: &Algo,
+    request: &DrawRequest<'_>,
+) -> Result<(), Fault>
+    ensures done { OnOk result (IsDrawingPut (F.contents files.old) (F.contents files.new) (draw_asked request.now) (algorithm_of algo.now)) }
+    ensures refused { IfErr result (IsDrawingUnput (F.contents files.old) (F.contents files.new) (draw_asked request.now) (algorithm_of algo.now)) }
+{
+    let file = drawing_of(rt, alloc, files, algo, request)?;
+    put_file(files, request.output, file.as_slice())
+}
+
 /// Draws which piece owns each pixel of the output of the plan of a file, which is checked first, and after an order of
 /// workers' steps how far they have come. The drawing is written last, after everything else has succeeded.
 ///
@@ -127,8 +159,5 @@ pub fn draw_command<T: Threads + Sync, F: Files>(
     ensures refused { IfErr result (IsRefused (F.contents files.old) (F.contents files.new) (draw_asked request.now)) }
 {
     let algo = algorithm_file(alloc, files, request.check.algorithm)?;
-    let checked = plan_in(rt, alloc, files, &algo, request.check.plan)?;
-    let file = drawn(alloc, files, &checked, request.order)?;
-    files.put(request.output, file.as_slice())?;
-    Ok(())
+    put_drawing(rt, alloc, files, &algo, request)
 }

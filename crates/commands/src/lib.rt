@@ -27,7 +27,7 @@ mod workers;
 
 /// What hears of the pieces of a picture, as `Files` hands it out, and one that hears nothing.
 pub use crew::{Gate, Unwatched};
-pub use device::{FileError, Files};
+pub use device::{FileError, Files, put_file};
 pub use exit::status;
 pub use pages::tell_code;
 pub use picture::{algorithm_file, algorithm_in, image_file, picture_command};

@@ -17,7 +17,7 @@ const CUT: &str = "..";
 const MOST_BEHIND: usize = 3;
 
 /// Where in a text something is refused.
-#[derive(Clone, Copy, PartialEq, Eq, Drop)]
+#[derive(Clone, Copy, Drop)]
 pub enum Place {
     /// Its bytes, the last one excluded.
     Bytes { start: usize, end: usize },

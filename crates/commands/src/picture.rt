@@ -12,9 +12,9 @@ ghost use Rattle.commands.specs.Files.{SameFiles};
 ghost use Rattle.commands.specs.Means.{AreMeans, IsAfforded, IsHalted, algo_meant, stores_checked};
 ghost use Rattle.commands.specs.Pictures.{IsDone, IsImageFault, IsRefused, IsTextFault, IsTooDear, IsUnready, IsWithin};
 ghost use Rattle.commands.specs.Pipeline.Pictures.{IsBudgetSpent};
-ghost use Rattle.commands.specs.Sources.{IsAlgorithmFile, IsImageFile, IsNoAlgorithmFile, IsNoImageFile, IsPictureOf, IsUnmade};
+ghost use Rattle.commands.specs.Sources.{IsAlgorithmFile, IsImageFile, IsNoAlgorithmFile, IsNoImageFile, IsPictureOf, IsPicturePut, IsPictureUnput, IsUnmade};
 
-use crate::device::Files;
+use crate::device::{Files, put_file};
 use crate::file::{file_of, room_for};
 use crate::pipeline::{Fault, plain_picture, plan_file, read_algorithm, read_inputs};
 use crate::plan_command::plan_in;
@@ -190,6 +190,21 @@ fn picture_of<T: Threads + Wait + Sync, F: Files>(
     picture_file(rt, alloc, files, &means, &inputs)
 }
 
+/// Writes this picture, after everything else has succeeded.
+fn put_picture<T: Threads + Wait + Sync, F: Files>(
+    rt: &T,
+    alloc: Global,
+    files: &mut F,
+    algo: &Algo,
+    request: &PictureRequest<'_>,
+) -> Result<(), Fault>
+    ensures done { OnOk result (IsPicturePut (F.contents files.old) (F.contents files.new) (picture_asked request.now) (algorithm_of algo.now)) }
+    ensures refused { IfErr result (IsPictureUnput (F.contents files.old) (F.contents files.new) (picture_asked request.now) (algorithm_of algo.now)) }
+{
+    let file = picture_of(rt, alloc, files, algo, request)?;
+    put_file(files, request.output, file.as_slice())
+}
+
 /// Writes the picture that an algorithm says of an image: by its definitions alone, in as many threads as serve; or by the
 /// plan of a file, which is checked and computed by the workers that are asked for.
 ///
@@ -208,7 +223,5 @@ pub fn picture_command<T: Threads + Wait + Sync, F: Files>(
     ensures refused { IfErr result (IsRefused (F.contents files.old) (F.contents files.new) (picture_asked request.now)) }
 {
     let algo = algorithm_file(alloc, files, request.algorithm)?;
-    let file = picture_of(rt, alloc, files, &algo, request)?;
-    files.put(request.output, file.as_slice())?;
-    Ok(())
+    put_picture(rt, alloc, files, &algo, request)
 }

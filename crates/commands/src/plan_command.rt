@@ -43,7 +43,7 @@ pub(crate) fn plan_in<'a, T: Threads + Sync, F: Files>(
 }
 
 /// What is told of a plan that was accepted.
-#[derive(Clone, Copy, PartialEq, Eq, Drop)]
+#[derive(Clone, Copy, Drop)]
 pub enum Telling {
     /// How many pieces and cells it has.
     Counts,

@@ -27,7 +27,6 @@ fn canonical(alloc: Global, algo: &Algo, bytes: &[u8]) -> Result<String, Fault>
     match write(alloc, algo) {
         Ok(text) => Ok(text),
         Err(WriteError::Memory) => Err(Fault::Memory),
-        Err(WriteError::NoText) => Err(Fault::Names),
         Err(WriteError::TooLong) => Err(Fault::Algo {
             code: Code::TooLarge,
             span: Span {

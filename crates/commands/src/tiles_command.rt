@@ -8,7 +8,7 @@ ghost use Rattle.commands.specs.Asked.{tiles_asked};
 ghost use Rattle.commands.specs.Crops.{IsPastLimit};
 ghost use Rattle.commands.specs.Pictures.{IsOfDevice};
 ghost use Rattle.commands.specs.Tilings.{AllInside, AllPut, ArePut, AreTiles, IsAdded, IsCutInto, IsDone, IsRefused, IsUntiled, KeepsKinds, SameBeside};
-ghost use Rattle.commands.specs.Tilings.{kind_name, kinds_of, line_told, list_name};
+ghost use Rattle.commands.specs.Tilings.{IsCutPut, IsCutUnput, kind_name, kinds_of, line_told, list_name};
 
 use crate::crop_command::{Part, scene_file, tile_at};
 use crate::device::Files;
@@ -128,8 +128,7 @@ fn tiles_sized(alloc: Global, scene: &Scene, width: u32, height: u32) -> Result<
     };
     scene.is_scene();
     tiles_are_mosaic();
-    let tiles = tiles_of(alloc, scene, tiling)?;
-    Ok(tiles)
+    tiles_of(alloc, scene, tiling)
 }
 
 /// The name of the file of a kind.
@@ -219,6 +218,21 @@ fn put_tiles<F: Files, W: Write>(
     Ok(())
 }
 
+/// Writes the texts and the list of the tiles of an algorithm, once all of them are made.
+fn put_cut<F: Files, W: Write>(
+    alloc: Global,
+    files: &mut F,
+    out: &mut W,
+    scene: &Scene,
+    request: &TilesRequest<'_>,
+) -> Result<(), Fault>
+    ensures done { OnOk result (IsCutPut (F.contents files.old) (F.contents files.new) (tiles_asked request.now) (scene_of scene.now)) }
+    ensures refused { IfErr result (IsCutUnput (F.contents files.old) (F.contents files.new) (tiles_asked request.now) (scene_of scene.now)) }
+{
+    let tiles = tiles_sized(alloc, scene, request.width, request.height)?;
+    put_tiles(alloc, files, out, request.folder, scene, &tiles)
+}
+
 /// Cuts an algorithm into the algorithms of tiles. Texts that are equal are written once, each to a file of its own in the
 /// folder, and the list of the tiles last, after everything else has succeeded.
 ///
@@ -239,7 +253,5 @@ pub fn tiles_command<F: Files, W: Write>(
         return Err(Fault::Image(PnmError::Device));
     }
     let scene = scene_file(alloc, files, request.algorithm)?;
-    let tiles = tiles_sized(alloc, &scene, request.width, request.height)?;
-    put_tiles(alloc, files, out, request.folder, &scene, &tiles)?;
-    Ok(())
+    put_cut(alloc, files, out, &scene, request)
 }

@@ -20,13 +20,13 @@ use Rattle.lower.specs.Fetches.{Entry}
 use Rattle.lower.specs.Uses.{first_home}
 use Rattle.lower.specs.Placed.{LaterText, PlacedText, fold_of, inner_seen}
 use Rattle.lower.specs.Seats.{add_places, folded}
-use Rattle.lower.specs.Homes.{HostText, host_at, hosts_named, is_over_grid, spot_in}
+use Rattle.lower.specs.Homes.{HostText, host_at, hosts_named, is_over_grid, spot_in, store_spot, put_before}
 use Rattle.lower.specs.Demanded.{scope_at, sites_at}
 use Rattle.lower.specs.Guarded.{needed_at}
 use Rattle.lower.specs.Parted.{kept_region}
-use Rattle.lower.specs.Rounded.{LainText, lain_kept, claim_of}
+use Rattle.lower.specs.Rounded.{LainText, lain_kept, lain_over, claim_of}
 use Rattle.lower.specs.Broken.{Inside, is_small}
-use Rattle.lower.specs.Slid.{TrackText, dimension_along, folds_fit, sliding_at, Holds}
+use Rattle.lower.specs.Slid.{TrackText, dimension_along, folds_fit, sliding_at, turns_of, Holds}
 
 -- ---- the places of a function's loop
 
@@ -125,6 +125,84 @@ pub record AreComputed (a : Algorithm) (e : Entry) (es : List Entry) (is : List 
   pub places : map (λ i. i.home) js ≡ called_spots a e is c.0.subject.name (spots_of e is c.0)
   pub each : AllByRecursion (IsComputed a e es is c) js
 
+-- ---- the same as one answer
+
+-- the function at these places, over what is needed of it there; None where a bound is missing
+module _ (a : Algorithm) (es : List Entry) (c : Entry) (home store : Spot) (outer around : List Binding) (r : List Span1) (along : Option (TrackText × ℕ)) (ss : List SiteText) where
+  -- with these turns, of which this is kept
+  abbrev pub laid_inner : List Span1 × Option LaterText → List Span1 → LainText → Option PlacedText
+  laid_inner t kept l =
+      let scope = bind_steps around l.begun.lets in
+      seated c.0 outer scope l t.1 ss (dimension_along along) >>= λ places. claim_of c.0 scope l.begun l.nests t.0 >>= λ claimed. Some (record {
+        function = c.0;
+        formulas = c.2;
+        home = home;
+        store = store;
+        places = places;
+        region = t.0;
+        claimed = claimed;
+        lets = l.begun.lets;
+        scope = scope;
+        nests = l.nests;
+        later = t.1;
+        fits = folds_fit c.0 scope r (dimension_along along);
+        is_small = are_small scope r outer (Some kept);
+      })
+
+  abbrev pub kept_inner : List Span1 × Option LaterText → List Span1 → Option PlacedText
+  kept_inner t kept = lain_over a c.0 c.2 around t.0 kept >>= laid_inner t kept
+
+  abbrev pub turned_inner : List Span1 × Option LaterText → Option PlacedText
+  turned_inner t = kept_region (length outer) around t.0 >>= kept_inner t
+
+  abbrev pub inner_over : Option PlacedText
+  inner_over = turns_of c.0 c.2 (length outer) around r es along >>= turned_inner
+
+module _ (a : Algorithm) (e : Entry) (es : List Entry) (is : List PlacedText) (c : Entry) where
+  abbrev pub inner_needed : Spot → Spot → List SiteText → List Span1 → Option PlacedText
+  inner_needed home store ss r = inner_over a es c home store (scope_at e is store) (scope_at e is home) r (sliding_at e is c.0 home store r) ss
+
+  -- at a place in the nests of this host, where these sites call it
+  abbrev pub inner_called : HostText → Spot → List SiteText → Option PlacedText
+  inner_called t home ss = needed_at a e is home (scope_at e is home) ss c.0 c.1.region >>= inner_needed home (store_spot t c.0.placed.stores home) ss
+
+  -- none where nothing calls it there
+  abbrev pub inner_if : HostText → Spot → List SiteText → Option (Option PlacedText)
+  inner_if t home [] = Some None
+  inner_if t home (s ∷ ss) = inner_called t home (s ∷ ss) >>= λ i. Some (Some i)
+
+  abbrev pub inner_at : HostText → Spot → Option (Option PlacedText)
+  inner_at t home = sites_at a e is home c.0.subject.name >>= inner_if t home
+
+  -- where there is such a place
+  abbrev pub inner_by : HostText → Option Spot → Option (Option PlacedText)
+  inner_by t None = Some None
+  inner_by t (Some s) = inner_at t s
+
+  -- in the nests of a host, from that of this definition on
+  abbrev pub inners_in : Host → HostText → List ℕ → ℕ → List NestText → Option (List PlacedText)
+  inners_in h t x d [] = Some []
+  inners_in h t x d (n ∷ ns) =
+      inner_by t (spot_in h t d x) >>= λ i. (if is_over_grid t.function.placed.loops x then Some [] else inners_in h t x (d + 1) ns) >>= λ js. Some (put_before i js)
+
+  abbrev pub inners_by : Home → Host → Option HostText → Option (List PlacedText)
+  inners_by home h None = Some []
+  inners_by home h (Some t) = if same_name t.function.subject.name home.function then inners_in h t home.turn 0 t.nests else Some []
+
+  abbrev pub inners_of_hosts : Home → List Host → Option (List PlacedText)
+  inners_of_hosts home [] = Some []
+  inners_of_hosts home (h ∷ hs) = inners_by home h (host_at e is h) >>= λ js. inners_of_hosts home hs >>= λ ks. Some (js ++ ks)
+
+  abbrev pub inners_at : Option Home → Option (List PlacedText)
+  inners_at None = Some []
+  inners_at (Some home) = inners_of_hosts home (hosts_named e is home.function)
+
+  -- all of a function's; None where a bound is missing at one of its places
+  abbrev pub inners_of : Option (List PlacedText)
+  inners_of = inners_at (first_home c.0.placed.homes)
+
+-- ---- one after another
+
 abbrev pub AreComputedIf : Algorithm → Entry → List Entry → List PlacedText → Option Entry → List PlacedText → Type 0
 AreComputedIf a e es is None js = js ≡ []
 AreComputedIf a e es is (Some c) js = AreComputed a e es is c js
@@ -140,15 +218,15 @@ abbrev pub AreFound : Algorithm → Entry → List Entry → ℕ → List Placed
 AreFound a e es zero is all = all ≡ is
 AreFound a e es (suc n) is all = Behind (AreComputedIf a e es is (slice_get es n)) (λ js. AreFound a e es n (is ++ js) all)
 
--- there is a function of this name
-abbrev pub IsNamedAt : Option Entry → List ℕ → Type 0
-IsNamedAt None x = ⊥
-IsNamedAt (Some c) x = c.0.subject.name ≡ x
+-- the function has this name, and a bound of it is missing in the group, in which those are computed that are declared later
+abbrev pub IsUnbounded : Algorithm → Entry → List Entry → List PlacedText → Option Entry → List ℕ → Type 0
+IsUnbounded a e es is None x = ⊥
+IsUnbounded a e es is (Some c) x = (c.0.subject.name ≡ x) × (inners_of a e es is c ≡ None)
 
--- one of the functions before this number has this name, and those behind it are computed in the group
+-- one of the functions before this number has this name, and a bound of it is missing; those behind it are computed in the group
 abbrev pub IsMissing : Algorithm → Entry → List Entry → ℕ → List PlacedText → List ℕ → Type 0
 IsMissing a e es zero is x = ⊥
-IsMissing a e es (suc n) is x = IsNamedAt (slice_get es n) x ⊎ Behind (AreComputedIf a e es is (slice_get es n)) (λ js. IsMissing a e es n (is ++ js) x)
+IsMissing a e es (suc n) is x = IsUnbounded a e es is (slice_get es n) x ⊎ Behind (AreComputedIf a e es is (slice_get es n)) (λ js. IsMissing a e es n (is ++ js) x)
 
 -- all that are computed in a group, or the name of one of which a bound is missing there
 abbrev pub AreFoundIn : Algorithm → Entry → List Entry → ℕ → List PlacedText → Inside → Type 0

@@ -23,7 +23,7 @@ use Rattle.lower.specs.Windows.{window_size, all_fit}
 use Rattle.lower.specs.Fetches.{Entry}
 use Rattle.lower.specs.Placed.{LaterText, PlacedText, same_spot}
 use Rattle.lower.specs.Demanded.{steps_at, is_scattered}
-use Rattle.lower.specs.Parted.{kept_region, nests_kept}
+use Rattle.lower.specs.Parted.{kept_region, nests_kept, nests_over}
 use Rattle.lower.specs.Turned.{symbol}
 
 -- ---- the loop
@@ -257,6 +257,30 @@ abbrev pub HasLater : StoredText → List FormulaText → Option (List Span1) �
 HasLater g fs kept x scope h None = slice_get h x.1 ≡ None
 HasLater g fs kept x scope h (Some l) = IsLater g fs kept x scope h l
 
+-- the same as one answer; None where a form leaves the limits
+module _ (g : StoredText) (fs : List FormulaText) (kept : List Span1) (x : TrackText × ℕ) (scope : List Binding) (h : List Span1) where
+  -- from the least of these forms on
+  abbrev pub later_from : List Form → Option LaterText
+  later_from new =
+      let inner = scope ++ LetMin new ∷ [] in
+      let region = new_region scope x.1 0 h in
+      nests_over g fs inner region kept >>= λ nests. Some (record {
+        symbol = x.0.symbol;
+        dimension = x.1;
+        first_new = new;
+        new = length inner - 1;
+        scope = inner;
+        region = region;
+        nests = nests;
+      })
+
+  abbrev pub later_along : Option Span1 → Option (Option LaterText)
+  later_along None = Some None
+  later_along (Some s) = new_from x.0.symbol s >>= λ new. later_from new >>= λ l. Some (Some l)
+
+  abbrev pub later_turns : Option (Option LaterText)
+  later_turns = later_along (slice_get h x.1)
+
 -- it holds this region in each turn, of which the later ones make what is new; so many symbols stand around its buffer
 pub record HoldsSome (g : StoredText) (fs : List FormulaText) (n : ℕ) (x : TrackText × ℕ) (scope : List Binding) (h held : List Span1) (later : Option LaterText) : Type 0 where
   pub is : held ≡ h
@@ -275,6 +299,16 @@ HoldsBy g fs n x scope r (Some h) held later = HoldsSome g fs n x scope h held l
 abbrev pub Holds : List Entry → StoredText → List FormulaText → ℕ → List Binding → List Span1 → Option (TrackText × ℕ) → List Span1 → Option LaterText → Type 0
 Holds es g fs n scope r None held later = HoldsNone r held later
 Holds es g fs n scope r (Some x) held later = HoldsBy g fs n x scope r (held_along es g fs scope r x) held later
+
+-- the same as one answer: the region that it holds, and its later turns
+module _ (g : StoredText) (fs : List FormulaText) (n : ℕ) (scope : List Binding) (r : List Span1) where
+  abbrev pub turns_held : TrackText × ℕ → Option (List Span1) → Option (List Span1 × Option LaterText)
+  turns_held x None = Some (r, None)
+  turns_held x (Some h) = kept_region n scope h >>= λ kept. later_turns g fs kept x scope h >>= λ l. Some (h, l)
+
+  abbrev pub turns_of : List Entry → Option (TrackText × ℕ) → Option (List Span1 × Option LaterText)
+  turns_of es None = Some (r, None)
+  turns_of es (Some x) = turns_held x (held_along es g fs scope r x)
 
 -- ---- as memory keeps them
 

@@ -210,7 +210,7 @@ fn held_along(
 
 // What a function holds in each turn of a loop along which it may slide, and the turns after the first one where these make what
 // is new alone.
-#[tactic(auto, using(crate::proofs::Along::holds_each, crate::proofs::Along::holds_some))]
+#[tactic(auto, using(crate::proofs::Along::holds_each, crate::proofs::Along::holds_some, crate::proofs::Along::held_none, crate::proofs::Along::held_unkept, crate::proofs::Along::held_unmade, crate::proofs::Along::held_made))]
 fn turns_along(
     alloc: Global,
     functions: &[Root<'_>],
@@ -220,9 +220,13 @@ fn turns_along(
     region: &Region,
     sliding: &Sliding,
 ) -> Result<(Region, Option<Later>), Stop>
-    ensures { IfOk result (λ turns. slid.HoldsBy (stored_of root.now.stored.now) (map formula_of root.now.formulas.now) (length outer.now)
+    ensures holds { IfOk result (λ turns. slid.HoldsBy (stored_of root.now.stored.now) (map formula_of root.now.formulas.now) (length outer.now)
         (slid.sliding_seen sliding.now) scope.now region.now (slid.held_along (map root_of functions.now) (stored_of root.now.stored.now)
         (map formula_of root.now.formulas.now) scope.now region.now (slid.sliding_seen sliding.now)) turns.0 (option_map later_seen turns.1)) }
+    ensures told { Gives result (λ turns. (turns.0, option_map later_seen turns.1)) (slid.turns_held (stored_of root.now.stored.now)
+        (map formula_of root.now.formulas.now) (length outer.now) scope.now region.now (slid.sliding_seen sliding.now)
+        (slid.held_along (map root_of functions.now) (stored_of root.now.stored.now) (map formula_of root.now.formulas.now) scope.now region.now
+        (slid.sliding_seen sliding.now))) }
 {
     let Some(held) = held_along(alloc, functions, root, scope, region, sliding)? else {
         return Ok((region.copy(alloc)?, None));
@@ -233,7 +237,7 @@ fn turns_along(
 }
 
 // The same where it may slide along none.
-#[tactic(auto, using(crate::proofs::Along::holds_all, crate::proofs::Along::holds_along))]
+#[tactic(auto, using(crate::proofs::Along::holds_all, crate::proofs::Along::holds_along, crate::proofs::Along::told_all, crate::proofs::Along::told_along))]
 fn turns_of(
     alloc: Global,
     functions: &[Root<'_>],
@@ -243,8 +247,11 @@ fn turns_of(
     region: &Region,
     sliding: &Option<Sliding>,
 ) -> Result<(Region, Option<Later>), Stop>
-    ensures { IfOk result (λ turns. slid.Holds (map root_of functions.now) (stored_of root.now.stored.now) (map formula_of root.now.formulas.now)
+    ensures holds { IfOk result (λ turns. slid.Holds (map root_of functions.now) (stored_of root.now.stored.now) (map formula_of root.now.formulas.now)
         (length outer.now) scope.now region.now (option_map slid.sliding_seen sliding.now) turns.0 (option_map later_seen turns.1)) }
+    ensures told { Gives result (λ turns. (turns.0, option_map later_seen turns.1)) (slid.turns_of (stored_of root.now.stored.now)
+        (map formula_of root.now.formulas.now) (length outer.now) scope.now region.now (map root_of functions.now)
+        (option_map slid.sliding_seen sliding.now)) }
 {
     let Some(sliding) = sliding else {
         return Ok((region.copy(alloc)?, None));
@@ -292,6 +299,8 @@ fn inner_of<'a>(
     ensures seated { IfOk result (λ one. computed.IsSeated (stored_of root.now.stored.now) outer.now (map site_of sites.now)
         (option_map slid.sliding_seen sliding.now) (lain_kept (algorithm_of algo.now) (stored_of root.now.stored.now) (map formula_of root.now.formulas.now)
         around.now one.region (kept_region_of (length outer.now) around.now one.region)) (inner_seen one)) }
+    ensures told { Gives result inner_seen (computed.inner_over (algorithm_of algo.now) (map root_of functions.now) (root_of root.now) spots.0 spots.1
+        outer.now around.now needed.now (option_map slid.sliding_seen sliding.now) (map site_of sites.now)) }
 {
     let (home, store) = spots;
     let (region, later) = turns_of(alloc, functions, root, outer, around, needed, sliding)?;
@@ -348,6 +357,8 @@ fn made_at<'a>(
     ensures store { IfOk result (λ one. one.store ≡ spec.store_spot (spec.host_seen hosted.now) (root_of root.now).0.placed.stores home) }
     ensures computed { IfOk result (λ one. computed.IsComputed (algorithm_of algo.now) (root_of group.now) (map root_of functions.now)
         (map inner_seen inners.now) (root_of root.now) (inner_seen one)) }
+    ensures told { Gives result inner_seen (computed.inner_called (algorithm_of algo.now) (root_of group.now) (map root_of functions.now)
+        (map inner_seen inners.now) (root_of root.now) (spec.host_seen hosted.now) home (map site_of sites.now)) }
 {
     let around = scope_at(alloc, group, inners, home)?;
     let needed = needed_at(alloc, algo, group, inners, root, home, &around, sites)?;
@@ -362,7 +373,7 @@ fn made_at<'a>(
 }
 
 // The function at a place; none where nothing calls it there.
-#[tactic(auto, using(crate::proofs::Along::nothing_calls))]
+#[tactic(auto, using(crate::proofs::Along::nothing_calls, crate::proofs::Along::told_uncalled, crate::proofs::Along::told_unknown))]
 fn inner_at<'a>(
     alloc: Global,
     algo: &Algo,
@@ -379,6 +390,8 @@ fn inner_at<'a>(
         (λ one. one.store ≡ spec.store_spot (spec.host_seen hosted.now) (root_of root.now).0.placed.stores home)) }
     ensures computed { IfOk result (λ found. computed.IsComputedAt (algorithm_of algo.now) (root_of group.now) (map root_of functions.now)
         (map inner_seen inners.now) (root_of root.now) home (option_map inner_seen found)) }
+    ensures told { Gives result (option_map inner_seen) (computed.inner_at (algorithm_of algo.now) (root_of group.now) (map root_of functions.now)
+        (map inner_seen inners.now) (root_of root.now) (spec.host_seen hosted.now) home) }
 {
     let name = root.stored.subject.name;
     let sites = sites_at(alloc, algo, group, inners, home, name.as_str())?;
@@ -406,7 +419,7 @@ fn put_before<'a>(
 }
 
 // The function at its loop in the nest of this definition, where that has it.
-#[tactic(auto, using(crate::proofs::Along::computed_where, crate::proofs::Along::computed_none))]
+#[tactic(auto, using(crate::proofs::Along::computed_where, crate::proofs::Along::computed_none, crate::proofs::Along::told_nowhere, crate::proofs::Along::told_where))]
 fn inner_in<'a>(
     alloc: Global,
     algo: &Algo,
@@ -429,6 +442,9 @@ fn inner_in<'a>(
     ensures computed { IfOk result (λ found. computed.IsComputedBy (algorithm_of algo.now) (root_of group.now) (map root_of functions.now)
         (map inner_seen inners.now) (root_of root.now) (spec.spot_in host (spec.host_seen hosted.now) definition home.now.turn)
         (option_map inner_seen found)) }
+    ensures told { Gives result (option_map inner_seen) (computed.inner_by (algorithm_of algo.now) (root_of group.now) (map root_of functions.now)
+        (map inner_seen inners.now) (root_of root.now) (spec.host_seen hosted.now)
+        (spec.spot_in host (spec.host_seen hosted.now) definition home.now.turn)) }
 {
     match spot_in(host, hosted, definition, &home.turn)? {
         Some(spot) => inner_at(alloc, algo, group, functions, inners, root, hosted, spot),
@@ -437,7 +453,7 @@ fn inner_in<'a>(
 }
 
 // The function in the nests of a host from this definition on; over the grid once.
-#[tactic(auto, using(crate::proofs::Hosts::put_at, crate::proofs::Along::computed_nowhere, crate::proofs::Along::computed_over_grid, crate::proofs::Along::computed_in_nests))]
+#[tactic(auto, using(crate::proofs::Hosts::put_at, crate::proofs::Along::computed_nowhere, crate::proofs::Along::computed_over_grid, crate::proofs::Along::computed_in_nests, crate::proofs::Along::told_first_missing, crate::proofs::Along::told_over_grid, crate::proofs::Along::told_others_missing))]
 fn inners_in<'a>(
     alloc: Global,
     algo: &Algo,
@@ -461,6 +477,8 @@ fn inners_in<'a>(
         (map inner_seen inners.now) (root_of root.now)
         (computed.spots_in host (spec.host_seen hosted.now) home.now.turn definition (map nest_seen nests.now))
         (map inner_seen v.items)) }
+    ensures told { Gives result (λ v. map inner_seen v.items) (computed.inners_in (algorithm_of algo.now) (root_of group.now) (map root_of functions.now)
+        (map inner_seen inners.now) (root_of root.now) host (spec.host_seen hosted.now) home.now.turn definition (map nest_seen nests.now)) }
 {
     match nests {
         [] => Ok(Vec::new(alloc)),
@@ -483,7 +501,7 @@ fn inners_in<'a>(
 }
 
 // The function in the nests of this host.
-#[tactic(auto, using(crate::proofs::Hosts::named_so, crate::proofs::Along::computed_no_host, crate::proofs::Along::computed_other, crate::proofs::Along::computed_by_host))]
+#[tactic(auto, using(crate::proofs::Hosts::named_so, crate::proofs::Along::computed_no_host, crate::proofs::Along::computed_other, crate::proofs::Along::computed_by_host, crate::proofs::Along::told_no_host, crate::proofs::Along::told_other, crate::proofs::Along::told_by_host))]
 fn inners_at<'b, 'a>(
     alloc: Global,
     algo: &Algo,
@@ -502,6 +520,8 @@ fn inners_at<'b, 'a>(
         (map inner_seen inners.now) (root_of root.now)
         (computed.spots_by home.now host (spec.host_at (root_of group.now) (map inner_seen inners.now) host))
         (map inner_seen v.items)) }
+    ensures told { Gives result (λ v. map inner_seen v.items) (computed.inners_by (algorithm_of algo.now) (root_of group.now) (map root_of functions.now)
+        (map inner_seen inners.now) (root_of root.now) home.now host (spec.host_at (root_of group.now) (map inner_seen inners.now) host)) }
 {
     let Some(hosted) = host_at(group, inners, host) else {
         return Ok(Vec::new(alloc));
@@ -518,7 +538,7 @@ fn inners_at<'b, 'a>(
 }
 
 // The function in the nests of these hosts.
-#[tactic(auto, using(crate::proofs::Hosts::appended, crate::proofs::Along::computed_nowhere, crate::proofs::Along::computed_hosts))]
+#[tactic(auto, using(crate::proofs::Hosts::appended, crate::proofs::Along::computed_nowhere, crate::proofs::Along::computed_hosts, crate::proofs::Along::told_host_missing, crate::proofs::Along::told_hosts_missing))]
 fn inners_of_hosts<'a>(
     alloc: Global,
     algo: &Algo,
@@ -537,6 +557,8 @@ fn inners_of_hosts<'a>(
         (map inner_seen inners.now) (root_of root.now)
         (computed.spots_of_hosts (root_of group.now) (map inner_seen inners.now) home.now hosts.now)
         (map inner_seen v.items)) }
+    ensures told { Gives result (λ v. map inner_seen v.items) (computed.inners_of_hosts (algorithm_of algo.now) (root_of group.now)
+        (map root_of functions.now) (map inner_seen inners.now) (root_of root.now) home.now hosts.now) }
 {
     match hosts {
         [] => Ok(Vec::new(alloc)),
@@ -554,7 +576,7 @@ fn inners_of_hosts<'a>(
 }
 
 // The function of this number wherever it is computed in the group.
-#[tactic(auto, using(crate::proofs::Along::found_nowhere, crate::proofs::Along::found_everywhere))]
+#[tactic(auto, using(crate::proofs::Along::found_nowhere, crate::proofs::Along::found_everywhere, crate::proofs::Along::told_homeless, crate::proofs::Along::told_home))]
 fn found_inside<'a>(
     alloc: Global,
     algo: &Algo,
@@ -568,6 +590,8 @@ fn found_inside<'a>(
     ensures at { IfOk result (λ v. spec.AreAt (root_of group.now) (map root_of functions.now) (map inner_seen inners.now) (map inner_seen v.items)) }
     ensures computed { IfOk result (λ v. computed.AreComputed (algorithm_of algo.now) (root_of group.now) (map root_of functions.now)
         (map inner_seen inners.now) (root_of root.now) (map inner_seen v.items)) }
+    ensures told { Gives result (λ v. map inner_seen v.items) (computed.inners_of (algorithm_of algo.now) (root_of group.now) (map root_of functions.now)
+        (map inner_seen inners.now) (root_of root.now)) }
 {
     let Some(home) = home_of(root) else {
         return Ok(Vec::new(alloc));

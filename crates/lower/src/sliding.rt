@@ -613,7 +613,7 @@ pub(crate) fn held_region(
 }
 
 /// The turns after the first one of a function that holds such a region in each turn.
-#[tactic(auto, using(crate::proofs::Along::later_made))]
+#[tactic(auto, using(crate::proofs::Along::later_made, crate::proofs::Along::later_nowhere, crate::proofs::Along::later_unnamed, crate::proofs::Along::later_unnested, crate::proofs::Along::later_told))]
 pub(crate) fn later_of(
     alloc: Global,
     root: &Root<'_>,
@@ -622,8 +622,10 @@ pub(crate) fn later_of(
     kept: &Region,
     sliding: &Sliding,
 ) -> Result<Option<Later>, Stop>
-    ensures { IfOk result (λ found. spec.HasLater (stored_of root.now.stored.now) (map formula_of root.now.formulas.now) (Some kept.now)
+    ensures turns { IfOk result (λ found. spec.HasLater (stored_of root.now.stored.now) (map formula_of root.now.formulas.now) (Some kept.now)
         (spec.sliding_seen sliding.now) scope.now region.now (option_map later_seen found)) }
+    ensures told { Gives result (option_map later_seen) (spec.later_turns (stored_of root.now.stored.now) (map formula_of root.now.formulas.now) kept.now
+        (spec.sliding_seen sliding.now) scope.now region.now) }
 {
     let Sliding { track, dimension } = sliding;
     let Some(span) = region.as_slice().get(*dimension) else {

@@ -4,21 +4,16 @@ use Rattle.tree.specs.Token.Lexical.{max_text}
 use Rattle.meaning.specs.Algorithm.{Algorithm}
 use Rattle.algo.specs.Refusal.{IsAlgorithmText}
 use Rattle.printer.specs.declared.error.WriteError.{WriteError}
-use Rattle.printer.specs.declared.error.WriteError.TheVariants.{Memory, NoText, TooLong}
+use Rattle.printer.specs.declared.error.WriteError.TheVariants.{Memory, TooLong}
 use Rattle.printer.specs.Tokens.{algorithm_tokens}
 use Rattle.printer.specs.Spacing.{text_of}
 
 abbrev pub canonical_text : Algorithm → List ℕ
 canonical_text a = text_of false (algorithm_tokens a)
 
--- no text is read as this algorithm
-abbrev pub HasNoText : Algorithm → Type 0
-HasNoText a = (text : List ℕ) → IsAlgorithmText text a → ⊥
-
 -- why an algorithm is not written
 abbrev pub IsNotWritten : Algorithm → WriteError → Type 0
 IsNotWritten a Memory = Unit {0}
-IsNotWritten a NoText = HasNoText a
 IsNotWritten a TooLong = max_text < length (canonical_text a)
 
 -- a text says one algorithm

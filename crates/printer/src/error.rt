@@ -12,9 +12,6 @@ pub enum WriteError {
     /// Memory ran out.
     #[error("out of memory")]
     Memory,
-    /// No text says the algorithm: a name is no name of a text, a literal is below 0 or past its type, or a call has no index.
-    #[error("no text says the algorithm")]
-    NoText,
     /// The canonical text has more than 65,536 bytes.
     #[error("a text of more than 65536 bytes")]
     TooLong,

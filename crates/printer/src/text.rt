@@ -1,48 +1,13 @@
 //! From tokens to their text.
 
 ghost use Rattle.std.specs.Prelude.{◌≡◌, ◌++◌, false, OnOk, IfOk, string_bytes};
-ghost use Rattle.std.specs.List.{list_all};
-ghost use Rattle.tree.specs.Token.Lexical as lexical;
 ghost use Rattle.tree.specs.Token.Spelling as spelled;
 ghost use Rattle.printer.specs.Spacing as spec;
 
 use numeric::Ty;
-use spelling::words::{is_name, put_count, put_name, put_type};
+use spelling::words::{put_count, put_name, put_type};
 use std::alloc::{AllocError, Global};
-use tree::token::{Literal, Symbol, Token, Word};
-
-/// The greatest number of a type; a number with no type is an i32.
-fn largest(ty: Option<Ty>) -> u32
-    ensures { result ≡ lexical.largest ty }
-{
-    match ty {
-        None | Some(Ty::I32) => 2_147_483_647,
-        Some(Ty::U8) => 255,
-        Some(Ty::U16) => 65_535,
-        Some(Ty::U32) => 4_294_967_295,
-        Some(Ty::I8) => 127,
-        Some(Ty::I16) => 32_767,
-    }
-}
-
-/// Whether the token has a text that is read as it.
-fn has_text(token: Token) -> bool
-    ensures { result ≡ spec.has_text token }
-{
-    match token {
-        Token::Name(name) => is_name(name.as_bytes()),
-        Token::LongName => false,
-        Token::Number(number) => number.value <= largest(number.ty),
-        _ => true,
-    }
-}
-
-/// Whether each token has such a text.
-pub(crate) fn have_text(tokens: &[Token]) -> bool
-    ensures { result ≡ list_all spec.has_text tokens.now }
-{
-    tokens.iter().all(|token| has_text(*token))
-}
+use tree::token::{Symbol, Token, Word};
 
 fn put_suffix(text: &mut String, ty: Option<Ty>) -> Result<(), AllocError>
     ensures { OnOk result (string_bytes text.new ≡ string_bytes text.old ++ spelled.suffix_text ty) }

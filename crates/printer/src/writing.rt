@@ -8,7 +8,7 @@ ghost use Rattle.printer.specs.Written as spec;
 
 use crate::error::WriteError;
 use crate::statements::algorithm_tokens;
-use crate::text::{have_text, text_of};
+use crate::text::text_of;
 use algo::Algo;
 use std::alloc::Global;
 
@@ -19,9 +19,7 @@ const MAX_TEXT: usize = 65_536;
 /// literal but those of i32. It is read as the algorithm again.
 ///
 /// # Errors
-/// `NoText` where no text at all is read as the algorithm, so never for one that was read: a name is no name of a text, a
-/// literal is below 0 or past its type, or a call has no index. `TooLong` where the canonical text has more than 65,536
-/// bytes; `Memory` where memory runs out.
+/// `TooLong` where the canonical text has more than 65,536 bytes; `Memory` where memory runs out.
 #[tactic(auto, using(crate::proofs::Again::written_again))]
 pub fn write(alloc: Global, algo: &Algo) -> Result<String, WriteError>
     ensures canonical { IfOk result (λ text. string_bytes text ≡ spec.canonical_text (algorithm_of algo.now)) }
@@ -30,10 +28,8 @@ pub fn write(alloc: Global, algo: &Algo) -> Result<String, WriteError>
     ensures refused { IfErr result (spec.IsNotWritten (algorithm_of algo.now)) }
 {
     algo.is_well_formed();
+    algo.is_read();
     let tokens = algorithm_tokens(alloc, algo)?;
-    if !have_text(&tokens) {
-        return Err(WriteError::NoText);
-    }
     let text = text_of(alloc, &tokens)?;
     if text.len() > MAX_TEXT {
         return Err(WriteError::TooLong);

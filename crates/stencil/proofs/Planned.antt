@@ -3,12 +3,11 @@ use Rattle.std.proofs.Common.{List, ℕ, inl, inr}
 use Rattle.meaning.specs.Algorithm.{Algorithm}
 use Rattle.commands.specs.declared.pipeline.fault.Fault.{Fault}
 use Rattle.commands.specs.Asked.{AskedCompile}
-use Rattle.commands.specs.Files.{Contents, Puts, SameFiles, SameOthers}
-use Rattle.commands.specs.Pictures.{IsOfDevice}
+use Rattle.commands.specs.Files.{Contents, SameFiles}
 use Rattle.commands.specs.Sources.{IsAlgorithmFile, IsNoAlgorithmFile}
 use Rattle.commands.proofs.Kept.{others_then, same_then}
 use Rattle.stencil.proofs.Compiled.{schedule_before, schedule_fault_before}
-use Rattle.stencil.specs.Compiles.{IsCompiled, IsDone, IsPlanOfFile, IsReason, IsRefused, IsUncompiled}
+use Rattle.stencil.specs.Compiles.{IsCompiled, IsDone, IsPlanOfFile, IsPlanPut, IsPlanUnput, IsReason, IsRefused, IsUncompiled}
 
 module _ (old : Contents) (a : AskedCompile) where
   pub compile_unread : (new : Contents) (fault : Fault) → SameFiles old new → IsNoAlgorithmFile old a.algorithm fault → IsRefused old new a fault
@@ -29,24 +28,21 @@ module _ (old : Contents) (a : AskedCompile) where
       refused = h.2;
     })))
 
-    pub compile_refused : (new : Contents) (fault : Fault) → SameFiles mid new → IsUncompiled mid x a.schedule fault → IsRefused old new a fault
-    compile_refused new fault then h = inl (same_then old mid new same then, uncompiled fault h)
+    whole : (bytes : List ℕ) → IsPlanOfFile mid x a.schedule bytes → IsCompiled old a bytes
+    whole bytes h = record {
+      text = said.0;
+      algorithm = x;
+      schedule = h.schedule;
+      holds_text = said.1;
+      is_text = said.2;
+      scheduled = schedule_before old mid a.schedule h.schedule same h.scheduled;
+      of_schedule = h.of_schedule;
+      planned = h.planned;
+    }
 
-    module _ (last new : Contents) (bytes : List ℕ) (then : SameFiles mid last) (h : IsPlanOfFile mid x a.schedule bytes) where
-      whole : IsCompiled old a bytes
-      whole = record {
-        text = said.0;
-        algorithm = x;
-        schedule = h.schedule;
-        holds_text = said.1;
-        is_text = said.2;
-        scheduled = schedule_before old mid a.schedule h.schedule same h.scheduled;
-        of_schedule = h.of_schedule;
-        planned = h.planned;
-      }
+    pub compile_refused : (new : Contents) (fault : Fault) → IsPlanUnput mid new a x fault → IsRefused old new a fault
+    compile_refused new fault (inl h) = inl (same_then old mid new same h.0, uncompiled fault h.1)
+    compile_refused new fault (inr h) = inr (h.0, others_then old mid new a.plan same h.1, (h.2.0, whole h.2.0 h.2.1))
 
-      pub plan_kept : (fault : Fault) → IsOfDevice fault → SameOthers last new a.plan → IsRefused old new a fault
-      plan_kept fault device others = inr (device, others_then old last new a.plan (same_then old mid last same then) others, (bytes, whole))
-
-      pub plan_put : Puts last new a.plan bytes → IsDone old new a
-      plan_put put = (bytes, whole, (put.0, others_then old last new a.plan (same_then old mid last same then) put.1))
+    pub plan_put : (new : Contents) → IsPlanPut mid new a x → IsDone old new a
+    plan_put new h = (h.0, whole h.0 h.1, (h.2.0, others_then old mid new a.plan same h.2.1))

@@ -6,8 +6,8 @@ use Rattle.algo.specs.Refusal.{IsAlgorithmText}
 use Rattle.sched.specs.Schedule.{Schedule}
 use Rattle.commands.specs.declared.pipeline.fault.Fault.{Fault}
 use Rattle.commands.specs.Asked.{AskedCompile}
-use Rattle.commands.specs.Files.{Contents, Holds, Puts, SameFiles, SameOthers}
-use Rattle.commands.specs.Pictures.{IsOfDevice, IsTextFault}
+use Rattle.commands.specs.Files.{Contents, Holds, IsPut, Puts, SameFiles, SameOthers}
+use Rattle.commands.specs.Pictures.{IsOfDevice, IsTextFault, IsUnput}
 use Rattle.stencil.specs.Compiling.{IsNotCompiled, IsPlanText, IsScheduleRefused, IsScheduleText}
 use Rattle.commands.specs.Pipeline.PlanFiles.{HasPlan}
 
@@ -29,6 +29,14 @@ pub record IsPlanOfFile (files : Contents) (a : Algorithm) (name : Text) (bytes 
 -- why there is none
 abbrev pub IsUncompiled : Contents → Algorithm → Text → Fault → Type 0
 IsUncompiled files a name fault = IsScheduleFault files name fault ⊎ ((s : Schedule) × HasScheduleFile files name s × IsNotCompiled a s fault)
+
+-- the plan file was put, and nothing else
+abbrev pub IsPlanPut : Contents → Contents → AskedCompile → Algorithm → Type 0
+IsPlanPut old new a x = IsPut old new a.plan (IsPlanOfFile old x a.schedule)
+
+-- why it was not put, and what stands then
+abbrev pub IsPlanUnput : Contents → Contents → AskedCompile → Algorithm → Fault → Type 0
+IsPlanUnput old new a x fault = IsUnput old new a.plan (IsPlanOfFile old x a.schedule) (IsUncompiled old x a.schedule) fault
 
 -- ---- what is done
 

@@ -4,13 +4,13 @@ ghost use Rattle.std.specs.Prelude.{IfErr, IfOk, OnOk, string_bytes};
 ghost use Rattle.algo.specs.View.{algorithm_of};
 ghost use Rattle.sched.specs.View.{schedule_of};
 ghost use Rattle.commands.specs.Asked.{compile_asked};
-ghost use Rattle.stencil.specs.Compiles.{HasScheduleFile, IsDone, IsPlanOfFile, IsRefused, IsScheduleFault, IsUncompiled};
+ghost use Rattle.stencil.specs.Compiles.{HasScheduleFile, IsDone, IsPlanOfFile, IsPlanPut, IsPlanUnput, IsRefused, IsScheduleFault, IsUncompiled};
 ghost use Rattle.commands.specs.Files.{SameFiles};
 
 use crate::compiling::{compile, read_schedule};
 use algo::Algo;
 use commands::pipeline::Fault;
-use commands::{CompileRequest, Files, algorithm_file};
+use commands::{CompileRequest, Files, algorithm_file, put_file};
 use pnm::PnmError;
 use sched::Sched;
 use std::alloc::Global;
@@ -50,6 +50,21 @@ fn compiled<T: Threads + Sync, F: Files>(
     compile(rt, alloc, algo, &sched)
 }
 
+/// Writes the plan file of the schedule that is asked for, after everything else has succeeded.
+fn put_plan<T: Threads + Sync, F: Files>(
+    rt: &T,
+    alloc: Global,
+    files: &mut F,
+    algo: &Algo,
+    request: &CompileRequest<'_>,
+) -> Result<(), Fault>
+    ensures done { OnOk result (IsPlanPut (F.contents files.old) (F.contents files.new) (compile_asked request.now) (algorithm_of algo.now)) }
+    ensures refused { IfErr result (IsPlanUnput (F.contents files.old) (F.contents files.new) (compile_asked request.now) (algorithm_of algo.now)) }
+{
+    let file = compiled(rt, alloc, files, algo, request.schedule)?;
+    put_file(files, request.plan, file.as_bytes())
+}
+
 /// Compiles a schedule to a plan file, which is checked against the algorithm and written last, after everything else has
 /// succeeded.
 ///
@@ -66,7 +81,5 @@ pub(crate) fn compile_command<T: Threads + Sync, F: Files>(
     ensures refused { IfErr result (IsRefused (F.contents files.old) (F.contents files.new) (compile_asked request.now)) }
 {
     let algo = algorithm_file(alloc, files, request.algorithm)?;
-    let file = compiled(rt, alloc, files, &algo, request.schedule)?;
-    files.put(request.plan, file.as_bytes())?;
-    Ok(())
+    put_plan(rt, alloc, files, &algo, request)
 }

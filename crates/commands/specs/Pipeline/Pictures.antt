@@ -72,3 +72,21 @@ IsRefused text file read left held holds (Limit line) = PlanRefused text file (L
 IsRefused text file read left held holds (Plan code line) = PlanRefused text file (Plan code line) × IsUntouched read left held holds
 IsRefused text file read left held holds (Image e) = DevicesFail text file read left held holds e
 IsRefused text file read left held holds _ = ⊥
+
+-- ---- from an algorithm on, and from a plan of it that the checker accepts
+
+-- it is done for whichever text says the algorithm
+abbrev pub IsDoneByFile : Algorithm → List ℕ → Option (List ℕ) → Option (List ℕ) → Option (List ℕ) → Option (List ℕ) → Type 0
+IsDoneByFile a file read left held holds = (text : List ℕ) → IsAlgorithmText text a → IsDone text file read left held holds
+
+-- it is refused for whichever text says it
+abbrev pub IsRefusedByFile : Algorithm → List ℕ → Option (List ℕ) → Option (List ℕ) → Option (List ℕ) → Option (List ℕ) → Fault → Type 0
+IsRefusedByFile a file read left held holds fault = (text : List ℕ) → IsAlgorithmText text a → IsRefused text file read left held holds fault
+
+-- it is done whichever file says the plan
+abbrev pub IsDoneByPlan : Algorithm → Option (List ℕ) → Option (List ℕ) → Option (List ℕ) → Option (List ℕ) → Type 0
+IsDoneByPlan a read left held holds = (file : List ℕ) → HasPlan a file → IsDoneByFile a file read left held holds
+
+-- it is refused whichever file says it
+abbrev pub IsRefusedByPlan : Algorithm → Option (List ℕ) → Option (List ℕ) → Option (List ℕ) → Option (List ℕ) → Fault → Type 0
+IsRefusedByPlan a read left held holds fault = (file : List ℕ) → HasPlan a file → IsRefusedByFile a file read left held holds fault

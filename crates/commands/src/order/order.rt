@@ -12,7 +12,7 @@ use std::alloc::{AllocError, Global};
 const MOST_STEPS: usize = 1 << 24;
 
 /// Why a text was not read.
-#[derive(Clone, Copy, PartialEq, Eq, Drop)]
+#[derive(Clone, Copy, Drop)]
 pub enum OrderError {
     /// O1: the text is no order of workers' numbers.
     Form,

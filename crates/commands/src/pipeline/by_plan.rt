@@ -9,7 +9,7 @@ ghost use Rattle.pnm.specs.declared.error.PnmError.TheVariants.{Device};
 ghost use Rattle.pnm.specs.Source.{IsEndless};
 ghost use Rattle.commands.specs.declared.pipeline.fault.Fault.{Fault as FaultOf};
 ghost use Rattle.commands.specs.declared.pipeline.fault.Fault.TheVariants.{Memory};
-ghost use Rattle.commands.specs.Pipeline.Pictures.{IsDone, IsRefused};
+ghost use Rattle.commands.specs.Pipeline.Pictures.{IsDone, IsDoneByFile, IsDoneByPlan, IsRefused, IsRefusedByFile, IsRefusedByPlan};
 ghost use Rattle.commands.specs.Pipeline.PlanFiles.{IsAccepted, IsFileRefused};
 
 use crate::heap::keep_large_blocks;
@@ -83,6 +83,55 @@ pub fn plan_picture<G: Gate>(
     Ok(picture_on::<Brand, G>(alloc, checked, inputs, gate)?)
 }
 
+/// Reads the image, and writes the picture that is computed by a checked plan.
+fn run_checked<S: Source, K: Sink>(
+    alloc: Global,
+    checked: &Checked<'_>,
+    source: &mut S,
+    sink: &mut K,
+) -> Result<(), Fault>
+    requires source { S.has_failed source.old ≡ false }
+    requires sink { K.has_failed sink.old ≡ false }
+    ensures done { OnOk result (IsDoneByPlan (algorithm_checked checked.now)
+        (S.remaining source.old) (S.remaining source.new) (K.contents sink.old) (K.contents sink.new)) }
+    ensures refused { IfErr result (IsRefusedByPlan (algorithm_checked checked.now)
+        (S.remaining source.old) (S.remaining source.new) (K.contents sink.old) (K.contents sink.new)) }
+    ensures failed { (S.has_failed source.new ≡ true) ⊎ (K.has_failed sink.new ≡ true) → IsErrOf result (FaultOf.Image Device) }
+    ensures device { IsErrOf result (FaultOf.Image Device)
+        → ((S.has_failed source.new ≡ true) ⊎ (K.has_failed sink.new ≡ true)) ⊎ IsEndless (S.remaining source.old) (S.remaining source.new) }
+    ensures same_source { S.identity source.new ≡ S.identity source.old }
+    ensures same_sink { K.identity sink.new ≡ K.identity sink.old }
+{
+    let inputs = inputs_from(alloc, checked.algo(), source)?;
+    let image = plan_picture(alloc, checked, &inputs, &Unwatched)?;
+    Ok(write_to(sink, &image)?)
+}
+
+/// Reads the plan file and has the plan checked, and does so by it.
+fn run_file<T: Threads + Sync, S: Source, K: Sink>(
+    rt: &T,
+    alloc: Global,
+    algo: &Algo,
+    file: &str,
+    source: &mut S,
+    sink: &mut K,
+) -> Result<(), Fault>
+    requires source { S.has_failed source.old ≡ false }
+    requires sink { K.has_failed sink.old ≡ false }
+    ensures done { OnOk result (IsDoneByFile (algorithm_of algo.now) file.now
+        (S.remaining source.old) (S.remaining source.new) (K.contents sink.old) (K.contents sink.new)) }
+    ensures refused { IfErr result (IsRefusedByFile (algorithm_of algo.now) file.now
+        (S.remaining source.old) (S.remaining source.new) (K.contents sink.old) (K.contents sink.new)) }
+    ensures failed { (S.has_failed source.new ≡ true) ⊎ (K.has_failed sink.new ≡ true) → IsErrOf result (FaultOf.Image Device) }
+    ensures device { IsErrOf result (FaultOf.Image Device)
+        → ((S.has_failed source.new ≡ true) ⊎ (K.has_failed sink.new ≡ true)) ⊎ IsEndless (S.remaining source.old) (S.remaining source.new) }
+    ensures same_source { S.identity source.new ≡ S.identity source.old }
+    ensures same_sink { K.identity sink.new ≡ K.identity sink.old }
+{
+    let checked = check_plan(rt, alloc, algo, file)?;
+    run_checked(alloc, &checked, source, sink)
+}
+
 /// Does what `run_over` does, between a source and a sink that tell whether they have failed: `Image(Device)` is answered
 /// exactly where one of them has, but for a source that never ends.
 ///
@@ -107,10 +156,7 @@ pub fn run_between<T: Threads + Sync, S: Source, K: Sink>(
     ensures same_sink { K.identity sink.new ≡ K.identity sink.old }
 {
     let algo = read_algorithm(alloc, text)?;
-    let checked = check_plan(rt, alloc, &algo, file)?;
-    let inputs = inputs_from(alloc, &algo, source)?;
-    let image = plan_picture(alloc, &checked, &inputs, &Unwatched)?;
-    Ok(write_to(sink, &image)?)
+    run_file(rt, alloc, &algo, file, source, sink)
 }
 
 /// Reads the algorithm and the plan file, has the plan checked, reads the image, computes the pieces one after another, and

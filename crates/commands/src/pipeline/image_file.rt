@@ -67,8 +67,8 @@ fn alone_on<J: Run, G: Gate>(
     ensures { IfOk result (λ file. file.items ≡ text_of (picture_said (algorithm_checked checked.now) (samples_of inputs.now))) }
 {
     let cells = PlanCells::of(alloc, checked)?;
-    let run = PreparedAlone::<J>::new(alloc, checked, inputs, &cells)?;
     let file = room_for(alloc, checked.algo())?;
+    let run = PreparedAlone::<J>::new(alloc, checked, inputs, &cells)?;
     Ok(file_alone(alloc, run, file, gate))
 }
 
@@ -88,8 +88,8 @@ fn crew_on<J: Run + Send + Sync, T: Threads + Wait + Sync, G: Gate>(
     ensures { IfOk result (λ file. file.items ≡ text_of (picture_said (algorithm_checked checked.now) (samples_of inputs.now))) }
 {
     let cells = PlanCells::of(alloc, checked)?;
-    let run = Prepared::<J>::new(alloc, checked, inputs, &cells, workers)?;
     let file = room_for(alloc, checked.algo())?;
+    let run = Prepared::<J>::new(alloc, checked, inputs, &cells, workers)?;
     Ok(file_by_crew(rt, alloc, run, file, gate))
 }
 

@@ -6,7 +6,7 @@ ghost use Rattle.commands.specs.Pipeline.Faults.{rule_number};
 use sched::{RegionRule, Rule};
 
 /// A rule that a schedule breaks.
-#[derive(Clone, Copy, Debug, PartialEq, Eq, Drop)]
+#[derive(Clone, Copy, Debug, Drop)]
 pub enum BrokenRule {
     /// One of its directives.
     Directive(Rule),

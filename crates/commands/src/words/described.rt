@@ -3,8 +3,8 @@
 ghost use Rattle.std.specs.Prelude.{map, IfOk};
 ghost use Rattle.clap.specs.Words.{App, Rule, new_app, with_rule, with_subcommand};
 ghost use Rattle.commands.specs.Described.{IsDescribed, IsRule, with_needed};
-ghost use Rattle.commands.specs.Line.{at_most_rule, by_first_rule, compare_line, compile_line, crop_line, draw_line, explain_line, format_line, line, needed};
-ghost use Rattle.commands.specs.Line.{order_rule, plain_line, plan_line, program, replay_line, run_line, cut, scheduled, several, tiles_line, workers_rule};
+ghost use Rattle.commands.specs.Line.{by_first_rule, compare_line, compile_line, crop_line, draw_line, explain_line, format_line, line, needed};
+ghost use Rattle.commands.specs.Line.{plain_line, plan_line, program, replay_line, run_line, cut, scheduled, several, tiles_line, valued};
 
 use crate::help;
 use crate::words::names::{
@@ -35,34 +35,14 @@ fn several_words<'a>(alloc: Global, name: &'a str, help: &'a str) -> Arg<'a>
     word(alloc, name, help).num_args(1..)
 }
 
-/// How many workers there are, which may be left out.
-fn workers_described<'a>(alloc: Global) -> Arg<'a>
-    ensures { IsRule workers_rule result }
+/// A word with a value of that name, which may be left out.
+fn valued_word<'a>(alloc: Global, name: &'a str, value: &'a str, help: &'a str) -> Arg<'a>
+    ensures { IsRule (valued name.entry.now) result }
 {
-    Arg::new(alloc, WORKERS)
-        .long(WORKERS)
-        .value_name("N")
-        .help("How many workers compute, from 1 to 64; 1 if left out")
-}
-
-/// How much a picture may cost, which may be left out.
-fn at_most_described<'a>(alloc: Global, help: &'a str) -> Arg<'a>
-    ensures { IsRule at_most_rule result }
-{
-    Arg::new(alloc, AT_MOST)
-        .long(AT_MOST)
-        .value_name("N")
+    Arg::new(alloc, name)
+        .long(name)
+        .value_name(value)
         .help(help)
-}
-
-/// After which order of steps is drawn, which may be left out.
-fn order_described<'a>(alloc: Global) -> Arg<'a>
-    ensures { IsRule order_rule result }
-{
-    Arg::new(alloc, ORDER_OPTION)
-        .long(ORDER_OPTION)
-        .value_name("ORDER")
-        .help("An order of steps: a pixel that it has not set is grey")
 }
 
 /// Whether schedules are compared with the first of them, which may be left out.
@@ -128,7 +108,7 @@ fn plain_described<'a>(alloc: Global) -> Result<Command<'a>, AllocError>
         ],
     );
     let most = "How many evaluations a pixel may take; 4294967296 if left out";
-    with_word(command, at_most_described(alloc, most))
+    with_word(command, valued_word(alloc, AT_MOST, "N", most))
 }
 
 fn format_described<'a>(alloc: Global) -> Result<Command<'a>, AllocError>
@@ -227,9 +207,10 @@ fn run_described<'a>(alloc: Global) -> Result<Command<'a>, AllocError>
             (OUTPUT, "Where the picture is written"),
         ],
     );
-    let command = with_word(command, workers_described(alloc));
+    let workers = "How many workers compute, from 1 to 64; 1 if left out";
+    let command = with_word(command, valued_word(alloc, WORKERS, "N", workers));
     let most = "How many stores the plan may make; any number if left out";
-    with_word(command, at_most_described(alloc, most))
+    with_word(command, valued_word(alloc, AT_MOST, "N", most))
 }
 
 fn draw_described<'a>(alloc: Global) -> Result<Command<'a>, AllocError>
@@ -246,7 +227,8 @@ fn draw_described<'a>(alloc: Global) -> Result<Command<'a>, AllocError>
             (OUTPUT, "Where the drawing is written, a PPM file"),
         ],
     );
-    with_word(command, order_described(alloc))
+    let order = "An order of steps: a pixel that it has not set is grey";
+    with_word(command, valued_word(alloc, ORDER_OPTION, "ORDER", order))
 }
 
 fn replay_described<'a>(alloc: Global) -> Result<Command<'a>, AllocError>

@@ -1,10 +1,7 @@
 -- The files stay as they are until the picture is put; what was read before then is the reason of each refusal.
-use Rattle.std.proofs.Common.{refl}
-use Rattle.std.proofs.lemmas.Result.{err_from_is_err_and}
-use Rattle.commands.proofs.Kept.{of_device}
-use Rattle.commands.proofs.Sourced.{picture_kept, picture_put, picture_unmade, picture_unread}
+use Rattle.std.proofs.lemmas.Result.{IfErr-weaker, err_from_is_err_and, on_ok_weaker}
+use Rattle.commands.proofs.Sourced.{picture_put, picture_refused, picture_unread}
 use Rattle.commands.proofs.Ways.{told}
-use Rattle.commands.specs.Status.{fault_of}
 use Rattle.commands.proofs.picture.picture_command.Goals as goal
 
 pub returns-in_err-algo-clause-refused : goal.returns-in_err-algo-clause-refused
@@ -13,20 +10,10 @@ returns-in_err-algo-clause-refused g c =
     let p = err_from_is_err_and c.from_residual.result c.from_residual.ensures.1 in
     told _ c.from_residual.result p.0 e p.1 p.2 (picture_unread _ _ _ e c.algorithm_file.ensures.same c.in_err-algo.ensures.refused)
 
-pub returns-in_err-file-clause-refused : goal.returns-in_err-file-clause-refused
-returns-in_err-file-clause-refused g c =
-    let e = c.in_err-file.field-0.0 in
-    let p = err_from_is_err_and c.from_residual-in_err-file.result c.from_residual-in_err-file.ensures.1 in
-    told _ c.from_residual-in_err-file.result p.0 e p.1 p.2 (picture_unmade _ _ _ c.in_ok-algo.ensures.said _ c.algorithm_file.ensures.same _ e c.picture_of.ensures.same c.in_err-file.ensures.refused)
-
-pub returns-in_err-put-clause-refused : goal.returns-in_err-put-clause-refused
-returns-in_err-put-clause-refused g c =
-    let e = c.in_err-put.field-0.0 in
-    let p = err_from_is_err_and c.from_residual-in_err-put.result c.from_residual-in_err-put.ensures.1 in
-    told _ c.from_residual-in_err-put.result p.0 (fault_of e) p.1 p.2 (picture_kept _ _ _ c.in_ok-algo.ensures.said _ c.algorithm_file.ensures.same _ _ c.in_ok-file.file.items
-    c.picture_of.ensures.same c.in_ok-file.ensures.made (fault_of e) (of_device e (fault_of e) refl) c.in_err-put.ensures.others)
-
 pub returns-clause-done : goal.returns-clause-done
 returns-clause-done g c =
-    picture_put _ _ _ c.in_ok-algo.ensures.said _ c.algorithm_file.ensures.same _ _ c.in_ok-file.file.items c.picture_of.ensures.same c.in_ok-file.ensures.made _
-    c.as_slice.ensures.value c.in_ok-put.ensures.put
+    on_ok_weaker c.put_picture.result (picture_put _ _ _ c.in_ok-algo.ensures.said _ c.algorithm_file.ensures.same _) c.put_picture.ensures.done
+
+pub returns-clause-refused : goal.returns-clause-refused
+returns-clause-refused g c =
+    IfErr-weaker c.put_picture.result _ _ (picture_refused _ _ _ c.in_ok-algo.ensures.said _ c.algorithm_file.ensures.same _) c.put_picture.ensures.refused

@@ -1,13 +1,14 @@
-use Rattle.std.proofs.Common.{◌≡◌, ◌+◌, List, Some, length, map, refl, subst, arith}
+use Rattle.std.proofs.Common.{◌≡◌, ◌+◌, List, Option, Some, None, length, map, refl, subst, arith}
 use Rattle.std.specs.Prelude.{slice_get}
+use Rattle.std.specs.Global.{Vec}
 use Rattle.std.proofs.lemmas.Option.{slice_get_past, slice_get_read}
 use Rattle.algo.specs.View.{algorithm_of}
 use Rattle.lower.specs.declared.inner.Inner.{Inner}
-use Rattle.lower.specs.Computed.{AreComputed}
+use Rattle.lower.specs.Computed.{AreComputed, inners_of}
 use Rattle.lower.specs.Groups.{root_of}
 use Rattle.lower.specs.Homes.{AreAt}
-use Rattle.lower.specs.Placed.{inner_seen}
-use Rattle.lower.proofs.Along.{found_missing, found_more, none_more}
+use Rattle.lower.specs.Placed.{PlacedText, inner_seen}
+use Rattle.lower.proofs.Along.{found_missing, found_more, none_more, limit_told}
 use Rattle.lower.proofs.Hosts.{more_at_home}
 use Rattle.lower.proofs.inner.+inners_before.Goals as goal
 
@@ -57,5 +58,10 @@ returns-in-Err-Limit-clause-found t c =
     let root = c.in-Some-get.root.now in
     let some : slice_get functions last ≡ Some root =
     slice_get_read functions (length functions) last root refl c.in-Some-get.ensures.lookup.3.0 c.in-Some-get.ensures.lookup.1 in
-    found_missing (algorithm_of c.args.algo.now) (root_of c.args.group.now) functions c.args.count last c.args.inners.items root (root_of root).0.subject.name
-    (omega (arith, c.in-Some.ensures)) some refl
+    let a = algorithm_of c.args.algo.now in
+    let e = root_of c.args.group.now in
+    let computed : List Inner → Option (List PlacedText) = λ l. inners_of a e (map root_of functions) (map inner_seen l) (root_of root) in
+    let told : computed c.deref.result.now ≡ None =
+    limit_told (λ (v : Vec Inner). map inner_seen v.items) c.in-Err-Limit.field-0 (computed c.deref.result.now) c.in-Err-Limit.field-0-is c.in-Err-Limit.ensures.told in
+    let none : computed c.args.inners.items ≡ None = subst (λ (l : List Inner). computed l ≡ None) c.deref.ensures.value told in
+    found_missing a e functions c.args.count last c.args.inners.items root (root_of root).0.subject.name (omega (arith, c.in-Some.ensures)) some refl none
