@@ -1,5 +1,5 @@
 //! What no command of the program shows: what a gate hears of a crew's pieces, workers that wait at a gate, single pieces by seats of
-//! the caller, and calls that no command makes, run as tests. The crate holds tests alone.
+//! the caller, calls that no command makes, and every kernel of `lanes`, run as tests. The crate holds tests alone.
 #![tactic(auto)]
 
 #[cfg(test)]
@@ -9,9 +9,15 @@ mod cells_tests;
 #[cfg(test)]
 mod chain_tests;
 #[cfg(test)]
+mod conversions;
+#[cfg(test)]
 mod example_tests;
 #[cfg(test)]
 mod gate_tests;
+#[cfg(test)]
+mod kernel_tests;
+#[cfg(test)]
+mod kernels;
 #[cfg(test)]
 mod seat_tests;
 #[cfg(test)]

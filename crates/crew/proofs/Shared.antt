@@ -32,7 +32,7 @@ use Rattle.orders.specs.contracts.lists.Piece as Piece
 use Rattle.checked_plan.specs.contracts.checked.Checked as Checked
 use Rattle.checked_plan.specs.contracts.output.plan_cells.GroupCells as GroupCells
 use Rattle.checked_plan.specs.contracts.output.plan_cells.PlanCells as PlanCells
-use Rattle.interpreter.proofs.scratch.Scratch.TheSendSync as scratch
+use Rattle.interpreter.proofs.Crossing.{scratch_field_send}
 use Rattle.piece.specs.contracts.cells.LookedCells as LookedCells
 use Rattle.board.proofs.seat.BoardSeat.TheSendSync as seat
 use Rattle.crew.specs.contracts.values.Desk as Desk
@@ -106,10 +106,10 @@ looked_field_send : (κ : NamedLft) → IsSend (LookedCells.the_field κ).row
 looked_field_send κ = search (sendable, crosses, cells_sync) depth 40 fits 100000
 
 pub desk_send : (κ : NamedLft) → IsSend (Desk.the_row κ)
-desk_send κ = search (sendable, crosses, scratch.the_field_send, looked_field_send) depth 40 fits 100000
+desk_send κ = search (sendable, crosses, scratch_field_send, looked_field_send) depth 40 fits 100000
 
 pub desk_field_send : (κ : NamedLft) → IsSend (Desk.the_field κ).row
-desk_field_send κ = search (sendable, crosses, scratch.the_field_send, looked_field_send) depth 40 fits 100000
+desk_field_send κ = search (sendable, crosses, scratch_field_send, looked_field_send) depth 40 fits 100000
 
 pub worker_send : (κ : NamedLft) → IsSend (Worker.the_row κ)
 worker_send κ = search (sendable, crosses, seat.the_send, desk_field_send) depth 40 fits 100000

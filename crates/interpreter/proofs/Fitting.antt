@@ -14,7 +14,9 @@ use Rattle.interpreter.specs.Buffers.Raster.{place_count}
 use Rattle.interpreter.specs.declared.buffers.limit.Limit.{Limit}
 use Rattle.plan.specs.declared.stmt.Coordinate.{Coordinate as CodeCoordinate}
 use Rattle.plan.specs.View.{coordinate_of}
-use Rattle.interpreter.specs.Needs.{allotments, block_allotments, block_call_indices, block_coordinate_count, block_symbol_count, call_indices, coordinate_count, coordinate_indices, name_count, places_in, symbol_count, BlockFits, BlockIsShort, Space, StatementFits, StatementIsShort}
+use Rattle.interpreter.specs.LineCodes.{BlockIsCoded, StatementIsCoded}
+use Rattle.interpreter.specs.Needs.{allotments, block_allotments, block_call_indices, block_coordinate_count, block_symbol_count, call_indices, coordinate_count, coordinate_indices}
+use Rattle.interpreter.specs.Needs.{name_count, places_in, symbol_count, BlockFits, BlockIsShort, Kept, Space, StatementFits, StatementIsShort}
 use Rattle.interpreter.specs.Targets.{indices_of, indices_of_all}
 
 pub All-front : (P : Limit → Type 0) (xs ys : List Limit) → All P (xs ++ ys) → All P xs
@@ -49,32 +51,33 @@ pub record IsEnoughFor (space : Space) (all : Statements) : Type 0 where
   pub point : block_coordinate_count all ≤ space.point
   pub stack : block_call_indices all ≤ space.stack
 
-module _ (own : ℕ) (space : Space) (room : ℕ) (owned : own ≤ space.point) where
+module _ (own : Kept) (space : Space) (room : ℕ) (owned : own.count ≤ space.point) where
   abbrev Q : Limit → Type 0
   Q l = HasMemoryFor space.limits l.buffer l.places
 
   mutual
-    pub fits : (a : Statement) (n : ℕ) → StatementIsShort a → All Q (allotments a) → n + symbol_count a ≤ room → IsEnough space a → StatementFits own space room a n
-    fits (Seq all) n s m h e = block_fits all n s m h (record { numbers = e.numbers; point = e.point; stack = e.stack })
-    fits (For i x kind body) n s m h e = (omega arith, fits body (n + 1) s m (omega arith) (record { numbers = e.numbers; point = e.point; stack = e.stack }))
-    fits (Let i pick forms) n s m h e = tt
-    fits (First i a b) n s m h e = (
-      fits a n s.0 (All-front Q (allotments a) (allotments b) m) (omega arith) (record { numbers = omega arith; point = omega arith; stack = omega arith }),
-      fits b n s.1 (All-back Q (allotments a) (allotments b) m) (omega arith) (record { numbers = omega arith; point = omega arith; stack = omega arith }),
+    pub fits : (a : Statement) (n : ℕ) → StatementIsShort a → StatementIsCoded own.codes a → All Q (allotments a) → n + symbol_count a ≤ room → IsEnough space a → StatementFits own space room a n
+    fits (Seq all) n s d m h e = block_fits all n s d m h (record { numbers = e.numbers; point = e.point; stack = e.stack })
+    fits (For i x kind body) n s d m h e = (omega arith, fits body (n + 1) s d m (omega arith) (record { numbers = e.numbers; point = e.point; stack = e.stack }))
+    fits (Let i pick forms) n s d m h e = tt
+    fits (First i a b) n s d m h e = (
+      fits a n s.0 d.0 (All-front Q (allotments a) (allotments b) m) (omega arith) (record { numbers = omega arith; point = omega arith; stack = omega arith }),
+      fits b n s.1 d.1 (All-back Q (allotments a) (allotments b) m) (omega arith) (record { numbers = omega arith; point = omega arith; stack = omega arith }),
     )
-    fits (Guard low high body) n s m h e = fits body n s m h (record { numbers = e.numbers; point = e.point; stack = e.stack })
-    fits (Alloc b f places) n s m h e = (s, m 0 (record { buffer = b; places = places_in places }) (omega arith))
-    fits (Fetch b g region) n s m h e = e.point
-    fits (Store b k at v) n s m h e = (e.numbers, e.point, e.stack)
-    fits (Publish c) n s m h e = owned
+    fits (Guard low high body) n s d m h e = fits body n s d m h (record { numbers = e.numbers; point = e.point; stack = e.stack })
+    fits (Alloc b f places) n s d m h e = (s, m 0 (record { buffer = b; places = places_in places }) (omega arith))
+    fits (Fetch b g region) n s d m h e = e.point
+    fits (Store b k at v) n s d m h e = (e.numbers, e.point, e.stack, d)
+    fits (Publish c) n s d m h e = owned
 
-    block_fits : (all : Statements) (n : ℕ) → BlockIsShort all → All Q (block_allotments all) → n + block_symbol_count all ≤ room → IsEnoughFor space all → BlockFits own space room all n
-    block_fits Empty n s m h e = tt
-    block_fits (Then a rest) n s m h e =
+    block_fits : (all : Statements) (n : ℕ) → BlockIsShort all → BlockIsCoded own.codes all → All Q (block_allotments all) → n + block_symbol_count all ≤ room → IsEnoughFor space all
+        → BlockFits own space room all n
+    block_fits Empty n s d m h e = tt
+    block_fits (Then a rest) n s d m h e =
         let named = name_symbol a in (
-          fits a n s.0 (All-front Q (allotments a) (block_allotments rest) m) (omega arith) (record { numbers = omega arith; point = omega arith; stack = omega arith }),
+          fits a n s.0 d.0 (All-front Q (allotments a) (block_allotments rest) m) (omega arith) (record { numbers = omega arith; point = omega arith; stack = omega arith }),
           omega arith,
-          block_fits rest (n + name_count a) s.1 (All-back Q (allotments a) (block_allotments rest) m) (omega arith) (record { numbers = omega arith; point = omega arith; stack = omega arith }),
+          block_fits rest (n + name_count a) s.1 d.1 (All-back Q (allotments a) (block_allotments rest) m) (omega arith) (record { numbers = omega arith; point = omega arith; stack = omega arith }),
         )
 
 -- the places of a buffer are as many whatever its symbols are

@@ -65,7 +65,7 @@ pub record Behind (old new : Listed) (o : Option (List ℤ)) : Type 0 where
   pub room : new.room ≡ old.room
   pub found : o ≡ Some more
 
-drop-append_seam : {A : Type 0} (xs ys : List A) → drop (length xs) (xs ++ ys) ≡ ys
+pub drop-append_seam : {A : Type 0} (xs ys : List A) → drop (length xs) (xs ++ ys) ≡ ys
 drop-append_seam [] ys = refl
 drop-append_seam (x ∷ xs) ys = drop-append_seam xs ys
 

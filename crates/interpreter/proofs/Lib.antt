@@ -4,6 +4,8 @@ pub mod Places
 pub mod Blocks
 pub mod Bindings
 pub mod Counting
+pub mod Codes
+pub mod Crossing
 pub mod Ending
 pub mod Fitting
 pub mod Giving

@@ -7,7 +7,7 @@ use Rattle.plan.specs.Plan.{Statement, Seq, For, Let, First, Guard, Alloc, Fetch
 use Rattle.plan.specs.Semantics.Actions.{Setting, actions}
 use Rattle.plan.specs.Symbols.{Symbols}
 use Rattle.interpreter.specs.Narrow.{StatementIsNarrow}
-use Rattle.interpreter.specs.Needs.{Space, StatementFits}
+use Rattle.interpreter.specs.Needs.{Kept, Space, StatementFits}
 use Rattle.interpreter.specs.StoreLines.{alone, one_line}
 
 pub not_alone : (xs : List Stmt) → 2 ≤ length xs → None ≡ alone (block (list_statements xs))
@@ -37,5 +37,5 @@ line_actions setting s a b h = by_line (λ (x : Statement). actions setting x s 
 pub line_narrow : (Own : Symbols → Type 0) (s : Symbols) (a b : Statement) → one_line a ≡ Some b → StatementIsNarrow Own a s → StatementIsNarrow Own b s
 line_narrow Own s a b h = by_line (λ (x : Statement). StatementIsNarrow Own x s → StatementIsNarrow Own b s) a b h (λ n. n) (λ n. n.0)
 
-pub line_fits : (own : ℕ) (space : Space) (room n : ℕ) (a b : Statement) → one_line a ≡ Some b → StatementFits own space room a n → StatementFits own space room b n
+pub line_fits : (own : Kept) (space : Space) (room n : ℕ) (a b : Statement) → one_line a ≡ Some b → StatementFits own space room a n → StatementFits own space room b n
 line_fits own space room n a b h = by_line (λ (x : Statement). StatementFits own space room x n → StatementFits own space room b n) a b h (λ f. f) (λ f. f.0)

@@ -3,7 +3,7 @@ use Rattle.std.proofs.Common.{◌≡◌, ℕ, suc, ◌+◌, ◌<◌, ◌≤◌, 
 use Rattle.std.specs.Prelude.{flat_map}
 use Rattle.plan.specs.declared.stmt.Stmt.{Stmt}
 use Rattle.plan.specs.Plan.{Statements, Then, block}
-use Rattle.interpreter.specs.Needs.{name_count, BlockFits, Space, StatementFits}
+use Rattle.interpreter.specs.Needs.{name_count, BlockFits, Kept, Space, StatementFits}
 use Rattle.plan.specs.Lists.{list_statements}
 use Rattle.plan.specs.View.{statement_of}
 use Rattle.plan.specs.Symbols.{Symbols}
@@ -52,6 +52,6 @@ block_narrow Own all i a s lt is h = subst (λ (b : Statements). BlockIsNarrow O
 
 -- ---- what parts need
 
-pub block_fits : (own : ℕ) (space : Space) (room : ℕ) (all : List Stmt) (i : ℕ) (a : Stmt) (n : ℕ) → i < length all → a ≡ get_or all i a → BlockFits own space room (from all i) n
+pub block_fits : (own : Kept) (space : Space) (room : ℕ) (all : List Stmt) (i : ℕ) (a : Stmt) (n : ℕ) → i < length all → a ≡ get_or all i a → BlockFits own space room (from all i) n
     → StatementFits own space room (statement_of a) n × (n + name_count (statement_of a) ≤ room) × BlockFits own space room (from all (i + 1)) (n + name_count (statement_of a))
 block_fits own space room all i a n lt is h = subst (λ (b : Statements). BlockFits own space room b n) (from_more all i a lt is) h

@@ -31,7 +31,7 @@ use Rattle.interpreter.specs.Bindings.{Bindings, also, symbols_of}
 use Rattle.interpreter.specs.declared.symbols.Binding.{Binding}
 use Rattle.interpreter.specs.Joining.{in_first}
 use Rattle.interpreter.specs.Narrow.{IsNumber, FormIsNarrow, IndexIsNarrow, StatementIsNarrow}
-use Rattle.interpreter.specs.Needs.{Space, StatementFits}
+use Rattle.interpreter.specs.Needs.{Kept, Space, StatementFits}
 use Rattle.interpreter.specs.Pieces.{setting}
 use Rattle.interpreter.specs.Runs.{store_at}
 use Rattle.interpreter.specs.Shifting.{in_name, in_turn, AreAlike, AreApart, CoordinatesRise, GoesOn, IndexRises, IsFirstForm, IsNamedLoop, NameIsNarrow}
@@ -197,7 +197,7 @@ loop_narrow : (Own : Symbols → Type 0) (s : Symbols) (body : Statement) (x : N
 loop_narrow Own s body x h first narrow =
     subst (λ (z : ℤ). StatementIsNarrow Own h.loop (bind s x.name.symbol z true)) (name_is x.name s first) (in_block Own s body x h narrow).1
 
-pub named_fits : (own : ℕ) (space : Space) (room n : ℕ) (body : Statement) (x : NamedLoop) → IsNamedLoop body x → StatementFits own space room body n → LineFits space room (n + 1) x.inner
+pub named_fits : (own : Kept) (space : Space) (room n : ℕ) (body : Statement) (x : NamedLoop) → IsNamedLoop body x → StatementFits own space room body n → LineFits own space room (n + 1) x.inner
 named_fits own space room n body x h fits =
     let whole = subst (λ (a : Statement). StatementFits own space room (Seq (Then a (Then h.loop Empty))) n) h.name (subst (λ (a : Statement). StatementFits own space room a n) h.is fits) in
     loops_fit own space room (n + 1) h.loop x.inner h.inner whole.2.0
@@ -234,7 +234,7 @@ next_from outer x s y h = omega (arith, ints, next_is outer x s y h)
 pub named_run : (x : Piece) (s : Symbols) (outer : Turns) (body : Statement) (both : NamedLoop) (y : Alike) (b : IsNamedLoop body both) (h : AreAlike outer both s y) →
     flat_map (λ z. actions (setting x) body (in_turn outer z s)) (rising outer.low h.turns.turns)
     ≡ flat_map (store_at x both.inner.line.buffer both.inner.line.coordinates.now (term_of both.inner.line.value.now) (in_name both.name (in_first outer s))
-    y.turns.symbol y.turns.low b.inner.is.line.store.definition)
+    y.turns.symbol y.turns.low both.inner.line.definition)
     (between y.turns.low y.turns.high)
 named_run x s outer body both y b h =
     let S = setting x in
@@ -246,7 +246,7 @@ named_run x s outer body both y b h =
     let j = both.inner.symbol in
     let line = both.inner.line in
     let cs = line.coordinates.now in
-    let d = b.inner.is.line.store.definition in
+    let d = both.inner.line.definition in
     let at : Symbols → ℤ → List Action = λ t. store_at x line.buffer cs (term_of line.value.now) t j c d in
     let f : ℤ → ℤ → List Action = λ z. at (in_name both.name (in_turn outer z s)) in
     let g : ℤ → List Action = at (in_name both.name (in_first outer s)) in

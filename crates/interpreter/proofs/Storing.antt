@@ -109,7 +109,7 @@ map_twice f g (x ∷ xs) = ap (λ ys. f (g x) ∷ ys) (map_twice f g xs)
 abbrev writes : Around → List (List ℕ) → List ℤ → List Target → List ℤ → Term → ℕ → Memory Value → Option (Memory Value)
 writes A names full at over e b m = with (found_target A (bound names full) at m) (λ q. with (found (bound names (q ++ over)) (look A m) e) (λ v. write m b q v))
 
-names_is : (cs : List CodeCoordinate) → map (λ c. c.variable) (map coordinate_of cs) ≡ map (λ c. string_bytes c.variable) cs
+pub names_is : (cs : List CodeCoordinate) → map (λ c. c.variable) (map coordinate_of cs) ≡ map (λ c. string_bytes c.variable) cs
 names_is cs = map_twice (λ (c : Coordinate). c.variable) coordinate_of cs
 
 targets_is : (s : Symbols) (n : ℕ) (cs : List CodeCoordinate) → map (target s) (take n (map coordinate_of cs)) ≡ map (target_of s) (take n cs)

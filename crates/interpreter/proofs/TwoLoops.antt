@@ -1,6 +1,6 @@
 -- Two loops over a store, one in the other: what they do is what the inner one alone does, where it goes on behind its last turn.
 use Rattle.std.proofs.Common.{◌≡◌, ◌≢◌, ℕ, zero, suc, ◌+◌, ◌*◌, ◌/◌, ◌%◌, ◌<◌, ◌≤◌, List, [], ◌∷◌, ◌++◌, map, take, drop, length, suc-mul, true≢false, Bool, true, false, refl, sym, ap, subst, ◌∙◌, arith, ℤ, pos, negsuc, ◌+ℤ◌, ◌-ℤ◌, ◌≤ℤ◌, ◌<ℤ◌, Option, None, Some}
-use Rattle.std.specs.Prelude.{◌==◌, if◌then◌else◌, ◌*ℤ◌, All, Contains, flat_map, int_le}
+use Rattle.std.specs.Prelude.{◌==◌, if◌then◌else◌, ◌*ℤ◌, All, Contains, flat_map, int_le, string_bytes}
 use Rattle.std.specs.Borrow.{Bor}
 use Rattle.std.specs.Int.{int_min}
 use Rattle.std.proofs.Math.IntN.{pos-*ℤ-pos, zero-*ℤ}
@@ -27,7 +27,8 @@ use Rattle.interpreter.specs.declared.turns.Turns.{Turns}
 use Rattle.interpreter.specs.Evaluation.Indices.{indices_in}
 use Rattle.interpreter.specs.Joining.{end_in, in_first, AreEnds, AreJoined, AreTurns, IndexJoins, CoordinatesJoin, EndFalls, EndIsNarrow, IsStoreLoop}
 use Rattle.interpreter.specs.Narrow.{IsNumber, FormIsNarrow, FormsAreNarrow, IndexIsNarrow, StatementIsNarrow}
-use Rattle.interpreter.specs.Needs.{Space, StatementFits}
+use Rattle.interpreter.specs.LineCodes.{IsCoded}
+use Rattle.interpreter.specs.Needs.{Kept, Space, StatementFits}
 use Rattle.interpreter.specs.Pieces.{setting}
 use Rattle.interpreter.specs.Runs.{store_at}
 use Rattle.interpreter.specs.Targets.{indices_of_all, CoordinateIsNarrow}
@@ -38,7 +39,7 @@ use Rattle.interpreter.proofs.Moving.{form_moved}
 use Rattle.interpreter.proofs.OneLines.{line_actions, line_narrow, line_fits}
 use Rattle.interpreter.proofs.Shorts.{all_unmapped}
 use Rattle.interpreter.proofs.StoreRuns.{rising_append}
-use Rattle.interpreter.proofs.Storing.{map_twice}
+use Rattle.interpreter.proofs.Storing.{map_twice, names_is}
 
 -- ---- forms
 
@@ -296,12 +297,12 @@ guarded f s (Some l) c h n t = cut f (form_value l.now s) c h n t.to
 pub inner_actions : (S : Setting) (s : Symbols) (body : Statement) (x : StoreLoop) (h : IsStoreLoop body x) (low high : ℤ) (e : Option (Bor Form)) (n : ℕ) →
     x.span.now.lower ≡ number low ∷ [] → AreEnds high e x.span.now.upper → AreTurns low high n →
     actions S body s
-    ≡ flat_map (λ w. if within s e w then stored S x.line.buffer h.is.line.store.definition (map coordinate_of x.line.coordinates.now) (term_of x.line.value.now)
+    ≡ flat_map (λ w. if within s e w then stored S x.line.buffer x.line.definition (map coordinate_of x.line.coordinates.now) (term_of x.line.value.now)
     (bind s x.symbol w (int_le w low)) ∷ [] else []) (rising low n)
 inner_actions S s body x h low high e n lower upper t =
     let l = h.is in
     let f : ℤ → ℤ → List Action = λ begin w. actions S l.body (bind s x.symbol w (int_le w begin)) in
-    let g : ℤ → List Action = λ w. stored S x.line.buffer l.line.store.definition (map coordinate_of x.line.coordinates.now) (term_of x.line.value.now) (bind s x.symbol w (int_le w low)) ∷ [] in
+    let g : ℤ → List Action = λ w. stored S x.line.buffer x.line.definition (map coordinate_of x.line.coordinates.now) (term_of x.line.value.now) (bind s x.symbol w (int_le w low)) ∷ [] in
     let first = number_largest s x.span.now.lower low lower in
     let all = span_turns s x.span.now low high e lower upper in
     let each : (w : ℤ) → f low w ≡ g w = λ w.
@@ -312,7 +313,7 @@ inner_actions S s body x h low high e n lower upper t =
 -- what both loops do is what the inner one does at all their turns, while the outer one is in its first
 pub loops_run : (x : Piece) (s : Symbols) (outer : Turns) (body : Statement) (y : Joined) (h : AreJoined outer body y) →
     flat_map (λ z. actions (setting x) body (bind s outer.symbol z (int_le z outer.low))) (between outer.low outer.high)
-    ≡ flat_map (store_at x y.inner.line.buffer y.inner.line.coordinates.now (term_of y.inner.line.value.now) (in_first outer s) y.turns.symbol y.turns.low h.loop.is.line.store.definition)
+    ≡ flat_map (store_at x y.inner.line.buffer y.inner.line.coordinates.now (term_of y.inner.line.value.now) (in_first outer s) y.turns.symbol y.turns.low y.inner.line.definition)
     (between y.turns.low (end_in (in_first outer s) y.turns.high y.ends.form))
 loops_run x s outer body y h =
     let S = setting x in
@@ -322,7 +323,7 @@ loops_run x s outer body y h =
     let c = y.turns.low in
     let line = y.inner.line in
     let cs = line.coordinates.now in
-    let d = h.loop.is.line.store.definition in
+    let d = y.inner.line.definition in
     let at : Symbols → ℕ → ℤ → List Action = λ t k. store_at x line.buffer cs (term_of line.value.now) t k c d in
     let e = y.ends.form in
     let f : ℤ → ℤ → List Action = λ z w. if within (bind s i z (int_le z a)) e w then at (bind s i z (int_le z a)) y.inner.symbol w else [] in
@@ -394,13 +395,14 @@ loops_end Own s outer body y h narrow =
     end_narrow t y.inner.span.now.upper y.ends.high y.ends.form h.upper loop.0.upper
 
 -- and it has room
-pub record LineFits (space : Space) (room n : ℕ) (x : StoreLoop) : Type 0 where
+pub record LineFits (own : Kept) (space : Space) (room n : ℕ) (x : StoreLoop) : Type 0 where
   pub symbols : n < room
   pub numbers : length x.line.coordinates.now ≤ space.numbers
   pub point : length x.line.coordinates.now ≤ space.point
   pub stack : indices_of_all x.line.coordinates.now + indices_in (term_of x.line.value.now) ≤ space.stack
+  pub code : IsCoded own.codes x.line.buffer x.line.definition (map (λ c. string_bytes c.variable) x.line.coordinates.now) (term_of x.line.value.now)
 
-pub loops_fit : (own : ℕ) (space : Space) (room n : ℕ) (body : Statement) (x : StoreLoop) → IsStoreLoop body x → StatementFits own space room body n → LineFits space room n x
+pub loops_fit : (own : Kept) (space : Space) (room n : ℕ) (body : Statement) (x : StoreLoop) → IsStoreLoop body x → StatementFits own space room body n → LineFits own space room n x
 loops_fit own space room n body x h fits =
     let l = h.is in
     let cs = x.line.coordinates.now in
@@ -412,6 +414,7 @@ loops_fit own space room n body x h fits =
       numbers = subst (λ (m : ℕ). m ≤ space.numbers) count here.0;
       point = subst (λ (m : ℕ). m ≤ space.point) count here.1;
       stack = subst (λ (m : ℕ). m + indices_in (term_of x.line.value.now) ≤ space.stack) (sym (indices_mapped cs)) here.2;
+      code = subst (λ (names : List (List ℕ)). IsCoded own.codes x.line.buffer x.line.definition names (term_of x.line.value.now)) (names_is cs) here.3;
     }
 
 pub apart : (m n : ℕ) → (m == n) ≡ false → m ≢ n

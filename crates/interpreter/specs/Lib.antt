@@ -2,6 +2,7 @@ pub mod Evaluation
 pub mod Buffers
 pub mod Bindings
 pub mod Claims
+pub mod Codes
 pub mod Narrow
 pub mod Needs
 pub mod Outcome
@@ -19,8 +20,10 @@ pub mod Runs
 pub mod Updates
 pub mod PlaceNumbers
 pub mod HeldTurns
+pub mod Readings
 pub mod RunReadings
 pub mod StoreLines
+pub mod LineCodes
 pub mod Joining
 pub mod Shifting
 pub mod Scanlines

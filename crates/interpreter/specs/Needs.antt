@@ -1,5 +1,5 @@
 -- What a run needs: memory for its buffers, and room for the symbols that it binds, for points and for the indices of calls.
-use Rattle.std.specs.Prelude.{ℕ, ◌+◌, ◌*◌, ◌≤◌, ◌<◌, List, [], ◌∷◌, ◌++◌, length, Option, Some, None, ⊤}
+use Rattle.std.specs.Prelude.{ℕ, ◌+◌, ◌*◌, ◌≤◌, ◌<◌, List, [], ◌∷◌, ◌++◌, length, map, Option, Some, None, ⊤}
 use Rattle.lin.specs.declared.span.Span1.{Span1}
 use Rattle.plan.specs.declared.stmt.Places.{Places}
 use Rattle.plan.specs.declared.stmt.Places.TheVariants.{From, Folded}
@@ -8,7 +8,9 @@ use Rattle.plan.specs.Certificate.Certificate.{Certificate}
 use Rattle.plan.specs.Certificate.Cells.{own_region}
 use Rattle.interpreter.specs.Evaluation.Indices.{indices_in}
 use Rattle.interpreter.specs.Buffers.Blocks.{HasMemoryFor}
+use Rattle.interpreter.specs.LineCodes.{IsCoded}
 use Rattle.interpreter.specs.declared.buffers.limit.Limit.{Limit}
+use Rattle.interpreter.specs.declared.line_codes.LineCode.{LineCode}
 
 -- ---- symbols
 
@@ -154,10 +156,15 @@ pub record Space : Type 0 where
   pub point : ℕ
   pub stack : ℕ
 
+-- what is kept of a group: how many coordinates the cells have that its pieces own, and the codes of its lines
+pub record Kept : Type 0 where
+  pub count : ℕ
+  pub codes : List LineCode
+
 -- A statement of a group whose pieces own cells of so many coordinates fits into this memory, where so many symbols can be bound,
 -- and so many are bound before it: each buffer that it allocates has the memory, each symbol that it binds has room, and so have
--- its points and the indices of its calls.
-module _ (own : ℕ) (space : Space) (room : ℕ) where
+-- its points and the indices of its calls. The code of each of its lines, if there is one, is that of the line.
+module _ (own : Kept) (space : Space) (room : ℕ) where
   abbrev mutual
     pub StatementFits : Statement → ℕ → Type 0
     StatementFits (Seq all) n = BlockFits all n
@@ -168,7 +175,8 @@ module _ (own : ℕ) (space : Space) (room : ℕ) where
     StatementFits (Alloc b f places) n = (length places ≤ 4) × HasMemoryFor space.limits b (places_in places)
     StatementFits (Fetch b g region) n = length region ≤ space.point
     StatementFits (Store b k at e) n = (length at ≤ space.numbers) × (length at ≤ space.point) × (coordinate_indices at + indices_in e ≤ space.stack)
-    StatementFits (Publish c) n = own ≤ space.point
+        × IsCoded own.codes b k (map (λ c. c.variable) at) e
+    StatementFits (Publish c) n = own.count ≤ space.point
 
     pub BlockFits : Statements → ℕ → Type 0
     BlockFits Empty n = Unit {0}

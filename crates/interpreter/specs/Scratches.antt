@@ -12,7 +12,9 @@ use Rattle.interpreter.specs.declared.state.State.{State}
 use Rattle.interpreter.specs.declared.buffers.limit.Limit.{Limit}
 use Rattle.interpreter.specs.Bindings.{Bindings, symbols_of}
 use Rattle.interpreter.specs.Needs.{allotments, call_indices, coordinate_count, own_count, symbol_count, Space, StatementFits, StatementIsShort}
+use Rattle.interpreter.specs.LineCodes.{codes_at}
 use Rattle.interpreter.specs.Sizes.{size_in, sizes_at}
+use Rattle.interpreter.specs.declared.line_codes.LineCode.{LineCode}
 use Rattle.interpreter.specs.declared.needs.Needs.{Needs}
 use Rattle.interpreter.specs.declared.scratch.Scratch.{Scratch}
 use Rattle.interpreter.specs.declared.sizes.Size.{Size}
@@ -41,16 +43,16 @@ pub record IsMadeFor (needs : Needs) (most : ℕ) (x : State) : Type 0 where
   pub point : x.point.room ≡ needs.coordinates
   pub stack : x.stack.room ≡ needs.indices
 
--- the sizes of the group's buffers, no symbol, and memory for the run of any piece of the group
-pub record Suffices (known : List Size) (none symbols : Bindings) (space : Space) (c : Certificate) (number : ℕ) (g : Group) : Type 0 where
+-- the sizes of the group's buffers, the codes of its lines, no symbol, and memory for the run of any piece of the group
+pub record Suffices (known : List Size) (codes : List LineCode) (none symbols : Bindings) (space : Space) (c : Certificate) (number : ℕ) (g : Group) : Type 0 where
   pub sizes : (b : ℕ) → size_in known b ≡ dimensions_in (allocated g.body b)
   pub constants : symbols_of none ≡ no_symbols
   pub grid : length g.grid ≤ symbols.grid_room
-  pub fits : StatementFits (own_count c number) space symbols.room g.body 0
+  pub fits : StatementFits (record { count = own_count c number; codes = codes }) space symbols.room g.body 0
 
 -- the scratch has all the memory that a run of a piece of the group takes
 abbrev pub IsScratchFor : Scratch → Certificate → ℕ → Group → Type 0
-IsScratchFor x c number g = Suffices (sizes_at x.sizes.items number) x.constants x.symbols (space_of x.state) c number g
+IsScratchFor x c number g = Suffices (sizes_at x.sizes.items number) (codes_at x.codes.items number) x.constants x.symbols (space_of x.state) c number g
 
 -- for each of these groups
 abbrev pub IsScratchForAll : Scratch → Certificate → List Group → Type 0
@@ -63,6 +65,7 @@ room_of x = x.state.given.room
 -- a scratch after a run: it suffices for what it did before
 pub record IsAgain (old new : Scratch) : Type 0 where
   pub sizes : new.sizes.items ≡ old.sizes.items
+  pub codes : new.codes.items ≡ old.codes.items
   pub constants : new.constants ≡ old.constants
   pub grid : new.symbols.grid_room ≡ old.symbols.grid_room
   pub symbols : new.symbols.room ≡ old.symbols.room

@@ -1,5 +1,5 @@
 -- Lines that store.
-use Rattle.std.specs.Prelude.{◌≡◌, ℕ, Option, Some, None, map}
+use Rattle.std.specs.Prelude.{◌≡◌, Option, Some, None, map}
 use Rattle.tree.specs.Term.{term_of}
 use Rattle.plan.specs.Plan.{Statement, Seq, Store, Statements, Empty, Then}
 use Rattle.plan.specs.View.{coordinate_of}
@@ -18,8 +18,7 @@ one_line a = Some a
 
 -- the statement is this line
 pub record IsStore (a : Statement) (x : StoreLine) : Type 0 where
-  pub definition : ℕ
-  pub is : a ≡ Store x.buffer definition (map coordinate_of x.coordinates.now) (term_of x.value.now)
+  pub is : a ≡ Store x.buffer x.definition (map coordinate_of x.coordinates.now) (term_of x.value.now)
 
 -- the statement is this line, or a block of it alone
 pub record IsStoreLine (a : Statement) (x : StoreLine) : Type 0 where

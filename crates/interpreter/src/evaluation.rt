@@ -28,7 +28,7 @@ pub(crate) use looking::number_after;
 pub(crate) use operations::{
     Difference, Larger, Operator, Product, Quotient, Remainder, Smaller, Sum,
 };
-pub(crate) use operators::applied;
+pub(crate) use operators::{applied, low_bits};
 pub use reader::Reader;
 pub use run::{evaluate_numbers, evaluate_run, evaluate_words};
 pub use run_reader::RunReader;

@@ -10,7 +10,7 @@ ghost use Rattle.plan.specs.View.{statement_of};
 ghost use Rattle.interpreter.specs.Bindings.{symbols_of};
 ghost use Rattle.interpreter.specs.Evaluation.Indices.{indices_in};
 ghost use Rattle.interpreter.specs.Joining.{end_in, in_first, AreEnds, AreJoined, AreTurns, CoordinateJoins, CoordinatesJoin, EndFalls, EndIsNarrow, IsLoop, IsStoreLoop, Joins};
-ghost use Rattle.interpreter.specs.Pieces.{around, IsReady};
+ghost use Rattle.interpreter.specs.Pieces.{around, IsReady, LineIsCoded};
 ghost use Rattle.interpreter.specs.Runs.{store_at};
 ghost use Rattle.interpreter.specs.States.{progress_of, EndsIn, IsAsLarge};
 ghost use Rattle.interpreter.specs.Steps.{steps};
@@ -242,6 +242,7 @@ pub(crate) fn run_joined<'a>(
     requires numbers { length line.now.coordinates.now ≤ state.old.numbers.room }
     requires point { length line.now.coordinates.now ≤ state.old.point.room }
     requires stack { indices_of_all line.now.coordinates.now + indices_in (term_of line.now.value.now) ≤ state.old.stack.room }
+    requires code { LineIsCoded piece.now line.now.buffer line.now.definition line.now.coordinates.now (term_of line.now.value.now) }
     ensures symbols { OnOk result (symbols.new ≡ symbols.old) }
     ensures large { OnOk result (IsAsLarge state.old state.new) }
     ensures run { (definition : ℕ) (cell : List ℕ → List ℤ → ValueFound) → EndsIn state.old.given.room (λ _. progress_of state.new) result (steps (around piece.now cell) (flat_map (store_at piece.now line.now.buffer line.now.coordinates.now (term_of line.now.value.now) (in_first outer (symbols_of symbols.old)) both.symbol both.low definition) (between both.low (end_in (in_first outer (symbols_of symbols.old)) both.high ends.entry.form))) (progress_of state.old)) }

@@ -3,10 +3,13 @@
 
 pub mod buffers;
 mod cells;
+mod code;
+mod coding;
 mod columns;
 pub mod evaluation;
 mod forms;
 mod joining;
+mod line_codes;
 mod loads;
 mod needs;
 mod piece;

@@ -1,6 +1,7 @@
 //! Names by which claims' cells are loaded.
 
-ghost use Rattle.std.specs.Prelude.{◌≡◌, ◌-◌, ◌^◌, ◌==◌, ◌&&◌, not, min};
+ghost use Rattle.std.specs.Bool.{OnTrue};
+ghost use Rattle.std.specs.Prelude.{◌≡◌, ◌-◌, ◌^◌, ◌==◌, ◌&&◌, not, min, None};
 ghost use Rattle.std.specs.List.{list_all};
 ghost use Rattle.plan.specs.Claimed.{is_digit, is_numeral, digits_after};
 ghost use Rattle.interpreter.specs.Claims.{Means};
@@ -57,5 +58,15 @@ pub(crate) fn claim_of(name: &str) -> Option<usize>
     match name.as_bytes() {
         [b'@', digits @ ..] if is_numeral(digits) => Some(number_of(digits)),
         _ => None,
+    }
+}
+
+/// Whether a name means no claim.
+pub(crate) fn means_none(name: &str) -> bool
+    ensures { OnTrue result (Means name.now None) }
+{
+    match claim_of(name) {
+        Some(_) => false,
+        None => true,
     }
 }

@@ -4,6 +4,7 @@ ghost use Rattle.std.specs.Prelude.{◌≡◌};
 ghost use Rattle.meaning.specs.Image.View.{AreExtents};
 ghost use Rattle.interpreter.specs.Raster.{AreExtents-prop};
 
+use crate::line_codes::LineCode;
 use crate::sizes::Size;
 use crate::symbols::Symbols;
 use meaning::image::Image;
@@ -20,6 +21,10 @@ pub(crate) struct Piece<'a> {
     pub group: &'a Group,
     pub number: usize,
     pub sizes: &'a [Size],
+    /// The codes of the group's lines.
+    pub codes: &'a [LineCode],
+    /// Whether the input's name means no claim.
+    pub is_plain: bool,
     /// No symbol at all, for forms that are constants.
     pub constants: &'a Symbols,
     pub ghost same: { image.now.extents.items ≡ plan.now.input.extents.items },

@@ -88,6 +88,29 @@ impl Reading<'_, '_> {
     }
 }
 
+impl Reading<'_, '_> {
+    ghost use Rattle.interpreter.specs.Claims.{Means};
+    ghost use Rattle.interpreter.specs.Pieces.{IsReady};
+
+    /// What a name finds at a point, where it means this claim. Names are compared only where it means none.
+    pub(crate) fn look_by(&self, claim: Option<usize>, name: &str, at: &[i64]) -> Option<Value>
+        requires ready { IsReady self.now.piece.now }
+        requires means { Means name.now claim }
+        ensures { result ≡ found_in self.now.piece.now self.now.memory.now name.now at.now }
+    {
+        let Some(number) = claim else {
+            return self.look(name, at);
+        };
+        if !self.piece.is_plain {
+            return self.look(name, at);
+        }
+        match self.piece.cert.claims.get(number) {
+            Some(claim) => self.memory.read(claim.buffer, at),
+            None => self.look(name, at),
+        }
+    }
+}
+
 impl Reader for Reading<'_, '_> {
     ghost variables = { λ r. bound (map (λ c. string_bytes c.variable) r.coordinates.now) r.numbers.now };
 

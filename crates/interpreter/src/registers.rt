@@ -14,6 +14,9 @@ pub(crate) const LONGEST_RUN: usize = 1024;
 /// The same of a loop that updates, for each of whose turns places of its own are found too.
 pub(crate) const LONGEST_UPDATE: usize = 512;
 
+/// Fewer turns of a loop are taken one by one: what a run costs whatever its length is more than they do.
+pub(crate) const SHORTEST_RUN: usize = 8;
+
 /// What a register holds for a turn, of the type.
 #[inline(always)]
 pub(crate) fn value_at(ty: Ty, words: &[u32], turn: usize) -> Value

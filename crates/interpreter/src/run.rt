@@ -13,7 +13,7 @@ ghost use Rattle.plan.specs.Certificate.Cells.{grid_point, group_pieces, own_reg
 ghost use Rattle.interpreter.specs.Bindings.{symbols_of, named_value, Extends};
 ghost use Rattle.interpreter.specs.Narrow.{BlockIsNarrow, FormsAreNarrow, PieceIsNarrow, RegionIsNarrow, SpanIsNarrow, StatementIsNarrow};
 ghost use Rattle.interpreter.specs.Outcome.{rank_gives, IsInput};
-ghost use Rattle.interpreter.specs.Pieces.{NamesAreNarrow, around, own_of, setting, IsReady, OwnIsSmall};
+ghost use Rattle.interpreter.specs.Pieces.{NamesAreNarrow, around, kept_of, own_of, setting, IsReady, OwnIsSmall};
 ghost use Rattle.interpreter.specs.Needs.{name_count, BlockFits, IsLine, StatementFits};
 ghost use Rattle.interpreter.specs.Scratches.{room_of, GivesIn, IsAgain, IsScratchFor, Suffices};
 ghost use Rattle.interpreter.specs.States.{progress_of, space_of, EndsIn, IsAsLarge};
@@ -24,6 +24,8 @@ use crate::cells::Cells;
 use crate::evaluation::Stop;
 use crate::forms::{largest, smallest, value_of};
 use crate::joining::{joined_loops, run_joined};
+use crate::line_codes::{LineCode, codes_at};
+use crate::loads::means_none;
 use crate::piece::Piece;
 use crate::runs::{run_stores, store_line};
 use crate::scratch::Scratch;
@@ -162,7 +164,7 @@ fn run_turns<'a, C: Cells>(
     requires ready { IsReady piece.now }
     requires narrow { (z : ℤ) → Contains (between turns.low turns.high) z → StatementIsNarrow (OwnIsSmall piece.now) (statement_of body.now) (bind (symbols_of symbols.old) turns.symbol z (int_le z turns.low)) }
     requires room { length symbols.old.bound < symbols.old.room }
-    requires fits { StatementFits (own_of piece.now) (space_of state.old) symbols.old.room (statement_of body.now) (length symbols.old.bound + 1) }
+    requires fits { StatementFits (kept_of piece.now) (space_of state.old) symbols.old.room (statement_of body.now) (length symbols.old.bound + 1) }
     ensures run { EndsIn state.old.given.room (λ _. progress_of state.new) result (steps (around piece.now (C.cell cells.now)) (flat_map (λ z. actions (setting piece.now) (statement_of body.now) (bind (symbols_of symbols.old) turns.symbol z (int_le z turns.low))) (between turns.low turns.high)) (progress_of state.old)) }
     ensures symbols { OnOk result (symbols.new ≡ symbols.old) }
     ensures large { OnOk result (IsAsLarge state.old state.new) }
@@ -196,7 +198,7 @@ fn run_block<'a, C: Cells>(
 ) -> Result<(), Stop>
     requires ready { IsReady piece.now }
     requires narrow { BlockIsNarrow (OwnIsSmall piece.now) (block (list_statements all.now)) (symbols_of symbols.old) }
-    requires fits { BlockFits (own_of piece.now) (space_of state.old) symbols.old.room (block (list_statements all.now)) (length symbols.old.bound) }
+    requires fits { BlockFits (kept_of piece.now) (space_of state.old) symbols.old.room (block (list_statements all.now)) (length symbols.old.bound) }
     ensures run { EndsIn state.old.given.room (λ _. progress_of state.new) result (steps (around piece.now (C.cell cells.now)) (block_actions (setting piece.now) (block (list_statements all.now)) (symbols_of symbols.old)) (progress_of state.old)) }
     ensures symbols { OnOk result (symbols.new ≡ symbols.old) }
     ensures large { OnOk result (IsAsLarge state.old state.new) }
@@ -221,7 +223,7 @@ fn run_line<'a, C: Cells>(
 ) -> Result<(), Stop>
     requires ready { IsReady piece.now }
     requires narrow { StatementIsNarrow (OwnIsSmall piece.now) (statement_of stmt.now) (symbols_of symbols.old) }
-    requires fits { StatementFits (own_of piece.now) (space_of state.old) symbols.old.room (statement_of stmt.now) (length symbols.old.bound) }
+    requires fits { StatementFits (kept_of piece.now) (space_of state.old) symbols.old.room (statement_of stmt.now) (length symbols.old.bound) }
     requires line { IsLine (statement_of stmt.now) }
     ensures run { EndsIn state.old.given.room (λ _. progress_of state.new) result (steps (around piece.now (C.cell cells.now)) (actions (setting piece.now) (statement_of stmt.now) (symbols_of symbols.old)) (progress_of state.old)) }
     ensures symbols { OnOk result (symbols.new ≡ symbols.old) }
@@ -240,10 +242,18 @@ fn run_line<'a, C: Cells>(
         } => fetch(piece, cells, *buffer, *group, region, symbols, state),
         Stmt::Store {
             buffer,
+            definition,
             coordinates,
             value,
-            ..
-        } => store(piece, *buffer, coordinates, value, symbols, state),
+        } => store(
+            piece,
+            *buffer,
+            *definition,
+            coordinates,
+            value,
+            symbols,
+            state,
+        ),
         Stmt::Publish { claim } => publish(piece, cells, *claim, symbols, state),
         Stmt::Seq(_) | Stmt::For { .. } | Stmt::First { .. } | Stmt::Guard { .. } => unreachable!(),
     }
@@ -261,7 +271,7 @@ fn run<'a, C: Cells>(
 ) -> Result<(), Stop>
     requires ready { IsReady piece.now }
     requires narrow { StatementIsNarrow (OwnIsSmall piece.now) (statement_of stmt.now) (symbols_of symbols.old) }
-    requires fits { StatementFits (own_of piece.now) (space_of state.old) symbols.old.room (statement_of stmt.now) (length symbols.old.bound) }
+    requires fits { StatementFits (kept_of piece.now) (space_of state.old) symbols.old.room (statement_of stmt.now) (length symbols.old.bound) }
     ensures run { EndsIn state.old.given.room (λ _. progress_of state.new) result (steps (around piece.now (C.cell cells.now)) (actions (setting piece.now) (statement_of stmt.now) (symbols_of symbols.old)) (progress_of state.old)) }
     ensures symbols { OnOk result (symbols.new ≡ symbols.old) }
     ensures large { OnOk result (IsAsLarge state.old state.new) }
@@ -310,6 +320,7 @@ fn group_at(groups: &[Group], number: usize) -> Option<&Group>
 fn run_group<'a, C: Cells>(
     alloc: Global,
     sizes: &'a [Size],
+    codes: &'a [LineCode],
     constants: &'a Symbols,
     symbols: &mut Symbols,
     state: &mut State,
@@ -322,7 +333,7 @@ fn run_group<'a, C: Cells>(
 ) -> Result<(), Stop>
     requires input { IsInput (plan_of plan.now) (image_of image.now) }
     requires narrow { MatchOption (slice_get (plan_of plan.now).groups number) ⊥ (λ g. PieceIsNarrow (certificate_of cert.now) number g (grid_point g.grid rank)) }
-    requires memory { MatchOption (slice_get (plan_of plan.now).groups number) ⊥ (Suffices sizes.now constants.now symbols.old (space_of state.old) (certificate_of cert.now) number) }
+    requires memory { MatchOption (slice_get (plan_of plan.now).groups number) ⊥ (Suffices sizes.now codes.now constants.now symbols.old (space_of state.old) (certificate_of cert.now) number) }
     requires inside { MatchOption (slice_get (plan_of plan.now).groups number) ⊥ (λ g. rank < group_pieces g) }
     ensures gives { GivesIn state.old.given.room result state.new.given.items (rank_gives (plan_of plan.now) (certificate_of cert.now) (image_of image.now).samples (C.cell cells.now) number rank) }
     ensures symbols { OnOk result ((symbols.new.grid_room ≡ symbols.old.grid_room) × (symbols.new.room ≡ symbols.old.room)) }
@@ -341,6 +352,8 @@ fn run_group<'a, C: Cells>(
         group: &*group,
         number,
         sizes: &*sizes,
+        codes: &*codes,
+        is_plain: means_none(plan.input.name.as_str()),
         constants: &*constants,
     };
     run(alloc, &piece, cells, &group.body, symbols, state)
@@ -374,6 +387,7 @@ pub fn run_piece_in<C: Cells>(
     run_group(
         alloc,
         sizes_at(&scratch.sizes, group),
+        codes_at(&scratch.codes, group),
         &scratch.constants,
         &mut scratch.symbols,
         &mut scratch.state,

@@ -20,7 +20,7 @@ ghost use Rattle.interpreter.specs.Buffers.Blocks.{memory_of};
 ghost use Rattle.interpreter.specs.Buffers.Spots.{HasPlace, IsSpot};
 ghost use Rattle.interpreter.specs.Evaluation.Indices.{indices_in};
 ghost use Rattle.interpreter.specs.Evaluation.Words.{word_at};
-ghost use Rattle.interpreter.specs.Pieces.{around, no_cells, IsReady};
+ghost use Rattle.interpreter.specs.Pieces.{around, no_cells, IsReady, LineIsCoded};
 ghost use Rattle.interpreter.specs.Rows.{listed};
 ghost use Rattle.interpreter.specs.Runs.{are_forms, longest_run, longest_update, numbers_at, numbers_of, store_at, FindsTurns, IsBut};
 ghost use Rattle.interpreter.specs.Sizes.{size_in};
@@ -34,7 +34,7 @@ use crate::buffers::{Buffers, Spot};
 use crate::evaluation::{Stop, evaluate_words};
 use crate::piece::Piece;
 use crate::placing::{Places, Target, place_update};
-use crate::registers::{LONGEST_RUN, LONGEST_UPDATE, value_at};
+use crate::registers::{LONGEST_RUN, LONGEST_UPDATE, SHORTEST_RUN, value_at};
 use crate::row::Row;
 use crate::run_reading::RunReading;
 use crate::sizes::size_in;
@@ -79,6 +79,7 @@ pub(crate) fn numbers_in(
 #[derive(Clone, Copy, Drop)]
 pub(crate) struct StoreLine<'a> {
     pub buffer: u64,
+    pub definition: u64,
     pub coordinates: &'a [Coordinate],
     pub value: &'a Expr,
 }
@@ -100,15 +101,16 @@ fn stored(stmt: &Stmt) -> Option<StoreLine<'_>>
 {
     let Stmt::Store {
         buffer,
+        definition,
         coordinates,
         value,
-        ..
     } = stmt
     else {
         return None;
     };
     Some(StoreLine {
         buffer: *buffer,
+        definition: *definition,
         coordinates,
         value,
     })
@@ -403,6 +405,7 @@ fn store_one_by_one<'a>(
     requires numbers { length line.now.coordinates.now ≤ state.old.numbers.room }
     requires point { length line.now.coordinates.now ≤ state.old.point.room }
     requires stack { indices_of_all line.now.coordinates.now + indices_in (term_of line.now.value.now) ≤ state.old.stack.room }
+    requires code { LineIsCoded piece.now line.now.buffer line.now.definition line.now.coordinates.now (term_of line.now.value.now) }
     ensures symbols { OnOk result (symbols.new ≡ symbols.old) }
     ensures large { OnOk result (IsAsLarge state.old state.new) }
     ensures run { (definition : ℕ) (cell : List ℕ → List ℤ → ValueFound) → EndsIn state.old.given.room (λ _. progress_of state.new) result (steps (around piece.now cell) (flat_map (store_at piece.now line.now.buffer line.now.coordinates.now (term_of line.now.value.now) (symbols_of symbols.old) part.turns.symbol part.turns.low definition) (rising part.low part.count)) (progress_of state.old)) }
@@ -413,6 +416,7 @@ fn store_one_by_one<'a>(
         store(
             piece,
             line.buffer,
+            line.definition,
             line.coordinates,
             line.value,
             symbols,
@@ -439,6 +443,7 @@ fn store_known_part<'a>(
     requires numbers { length line.now.coordinates.now ≤ state.old.numbers.room }
     requires point { length line.now.coordinates.now ≤ state.old.point.room }
     requires stack { indices_of_all line.now.coordinates.now + indices_in (term_of line.now.value.now) ≤ state.old.stack.room }
+    requires code { LineIsCoded piece.now line.now.buffer line.now.definition line.now.coordinates.now (term_of line.now.value.now) }
     ensures symbols { OnOk result (symbols.new ≡ symbols.old) }
     ensures large { OnOk result (IsAsLarge state.old state.new) }
     ensures run { (definition : ℕ) (cell : List ℕ → List ℤ → ValueFound) → EndsIn state.old.given.room (λ _. progress_of state.new) result (steps (around piece.now cell) (flat_map (store_at piece.now line.now.buffer line.now.coordinates.now (term_of line.now.value.now) (symbols_of symbols.old) part.turns.symbol part.turns.low definition) (rising part.low part.count)) (progress_of state.old)) }
@@ -470,6 +475,7 @@ fn store_update<'a>(
     requires numbers { length line.now.coordinates.now ≤ state.old.numbers.room }
     requires point { length line.now.coordinates.now ≤ state.old.point.room }
     requires stack { indices_of_all line.now.coordinates.now + indices_in (term_of line.now.value.now) ≤ state.old.stack.room }
+    requires code { LineIsCoded piece.now line.now.buffer line.now.definition line.now.coordinates.now (term_of line.now.value.now) }
     requires finds { FindsUpdate piece.now line.now.buffer (size_in piece.now.sizes.now line.now.buffer) line.now.coordinates.now (term_of line.now.value.now) (symbols_of symbols.old) part.turns.symbol part.turns.low part.low (memory_of state.old.memory) part.count update state.old.registers.items }
     ensures symbols { OnOk result (symbols.new ≡ symbols.old) }
     ensures large { OnOk result (IsAsLarge state.old state.new) }
@@ -525,6 +531,7 @@ fn store_short_part<'a>(
     requires numbers { length line.now.coordinates.now ≤ state.old.numbers.room }
     requires point { length line.now.coordinates.now ≤ state.old.point.room }
     requires stack { indices_of_all line.now.coordinates.now + indices_in (term_of line.now.value.now) ≤ state.old.stack.room }
+    requires code { LineIsCoded piece.now line.now.buffer line.now.definition line.now.coordinates.now (term_of line.now.value.now) }
     ensures symbols { OnOk result (symbols.new ≡ symbols.old) }
     ensures large { OnOk result (IsAsLarge state.old state.new) }
     ensures run { (definition : ℕ) (cell : List ℕ → List ℤ → ValueFound) → EndsIn state.old.given.room (λ _. progress_of state.new) result (steps (around piece.now cell) (flat_map (store_at piece.now line.now.buffer line.now.coordinates.now (term_of line.now.value.now) (symbols_of symbols.old) part.turns.symbol part.turns.low definition) (rising part.low part.count)) (progress_of state.old)) }
@@ -551,10 +558,14 @@ fn store_part<'a>(
     requires numbers { length line.now.coordinates.now ≤ state.old.numbers.room }
     requires point { length line.now.coordinates.now ≤ state.old.point.room }
     requires stack { indices_of_all line.now.coordinates.now + indices_in (term_of line.now.value.now) ≤ state.old.stack.room }
+    requires code { LineIsCoded piece.now line.now.buffer line.now.definition line.now.coordinates.now (term_of line.now.value.now) }
     ensures symbols { OnOk result (symbols.new ≡ symbols.old) }
     ensures large { OnOk result (IsAsLarge state.old state.new) }
     ensures run { (definition : ℕ) (cell : List ℕ → List ℤ → ValueFound) → EndsIn state.old.given.room (λ _. progress_of state.new) result (steps (around piece.now cell) (flat_map (store_at piece.now line.now.buffer line.now.coordinates.now (term_of line.now.value.now) (symbols_of symbols.old) part.turns.symbol part.turns.low definition) (rising part.low part.count)) (progress_of state.old)) }
 {
+    if part.count < SHORTEST_RUN {
+        return store_one_by_one(piece, line, part, symbols, state);
+    }
     if part.count > LONGEST_UPDATE {
         store_known_part(piece, line, part, symbols, state)
     } else {
@@ -562,11 +573,15 @@ fn store_part<'a>(
     }
 }
 
-/// How many turns of a store are taken together at most. An update takes memory for the places of each of its turns.
-fn most_turns(piece: &Piece<'_>, line: &StoreLine<'_>) -> usize
+/// How many turns of a store are taken together at most. An update takes memory for the places of each of its turns. Where there is one
+/// turn at most, nothing is asked.
+fn most_turns(piece: &Piece<'_>, line: &StoreLine<'_>, turns: Turns) -> usize
     ensures some { 0 < result }
     ensures few { result ≤ longest_run }
 {
+    if turns.high <= turns.low {
+        return 1;
+    }
     if is_update(piece, line) {
         LONGEST_UPDATE
     } else {
@@ -606,11 +621,12 @@ pub(crate) fn run_stores<'a>(
     requires numbers { length line.now.coordinates.now ≤ state.old.numbers.room }
     requires point { length line.now.coordinates.now ≤ state.old.point.room }
     requires stack { indices_of_all line.now.coordinates.now + indices_in (term_of line.now.value.now) ≤ state.old.stack.room }
+    requires code { LineIsCoded piece.now line.now.buffer line.now.definition line.now.coordinates.now (term_of line.now.value.now) }
     ensures symbols { OnOk result (symbols.new ≡ symbols.old) }
     ensures large { OnOk result (IsAsLarge state.old state.new) }
     ensures run { (definition : ℕ) (cell : List ℕ → List ℤ → ValueFound) → EndsIn state.old.given.room (λ _. progress_of state.new) result (steps (around piece.now cell) (flat_map (store_at piece.now line.now.buffer line.now.coordinates.now (term_of line.now.value.now) (symbols_of symbols.old) turns.symbol turns.low definition) (between turns.low turns.high)) (progress_of state.old)) }
 {
-    let most = most_turns(piece, line);
+    let most = most_turns(piece, line, turns);
     let mut low = turns.low;
     while low <= turns.high {
         let part = first_part(turns, low, most);

@@ -8,6 +8,7 @@ ghost use Rattle.plan.specs.Certificate.Cells.{own_region};
 ghost use Rattle.interpreter.specs.Scratches.{room_of, IsNotedFor, IsScratchForAll};
 
 use crate::buffers::larger;
+use crate::line_codes::{LineCode, line_codes};
 use crate::needs::{Needs, note_needs};
 use crate::run::own_region;
 use crate::sizes::{Size, sizes_of};
@@ -23,6 +24,7 @@ use std::alloc::{AllocError, Global};
 pub struct Scratch {
     /// How many coordinates the buffers of each group have.
     pub(crate) sizes: Vec<Vec<Size>>,
+    pub(crate) codes: Vec<Vec<LineCode>>,
     pub(crate) constants: Symbols,
     pub(crate) symbols: Symbols,
     pub(crate) state: State,
@@ -78,14 +80,17 @@ impl Scratch {
             indices: 0,
         };
         let mut sizes = Vec::new(alloc);
+        let mut codes = Vec::new(alloc);
         let mut counts = 0;
         for (number, group) in groups.iter().enumerate() {
             note_group(group, cert, number, &mut needs)?;
             counts = larger(counts, group.grid.len());
             sizes.push(sizes_of(alloc, &group.body)?)?;
+            codes.push(line_codes(alloc, &group.body)?)?;
         }
         Ok(Scratch {
             sizes,
+            codes,
             constants: Symbols::new(alloc, 0, 0)?,
             symbols: Symbols::new(alloc, counts, needs.symbols)?,
             state: State::new(alloc, &needs, given)?,

@@ -15,7 +15,7 @@ ghost use Rattle.interpreter.specs.Evaluation.Indices.{indices_in};
 ghost use Rattle.interpreter.specs.Joining.{in_first};
 ghost use Rattle.interpreter.specs.Narrow.{StatementIsNarrow};
 ghost use Rattle.interpreter.specs.Needs.{StatementFits};
-ghost use Rattle.interpreter.specs.Pieces.{around, own_of, setting, IsReady, OwnIsSmall};
+ghost use Rattle.interpreter.specs.Pieces.{around, kept_of, setting, IsReady, OwnIsSmall, LineIsCoded};
 ghost use Rattle.interpreter.specs.Runs.{store_at};
 ghost use Rattle.interpreter.specs.Shifting.{in_name, in_turn, AreAlike, AreApart, AreTurnsTo, CoordinateRises, CoordinatesRise, GoesOn, IsFirstForm, IsLastAlike, IsName, IsNamedLoop, IsSeries, NameIsNarrow};
 ghost use Rattle.interpreter.specs.States.{progress_of, space_of, EndsIn, IsAsLarge};
@@ -294,6 +294,7 @@ fn run_named<'a>(
     requires numbers { length line.now.coordinates.now ≤ state.old.numbers.room }
     requires point { length line.now.coordinates.now ≤ state.old.point.room }
     requires stack { indices_of_all line.now.coordinates.now + indices_in (term_of line.now.value.now) ≤ state.old.stack.room }
+    requires code { LineIsCoded piece.now line.now.buffer line.now.definition line.now.coordinates.now (term_of line.now.value.now) }
     ensures symbols { OnOk result (symbols.new ≡ symbols.old) }
     ensures large { OnOk result (IsAsLarge state.old state.new) }
     ensures run { (definition : ℕ) (cell : List ℕ → List ℤ → ValueFound) → EndsIn state.old.given.room (λ _. progress_of state.new) result (steps (around piece.now cell) (flat_map (store_at piece.now line.now.buffer line.now.coordinates.now (term_of line.now.value.now) (in_name name.now (in_first outer (symbols_of symbols.old))) turns.symbol turns.low definition) (between turns.low turns.high)) (progress_of state.old)) }
@@ -323,7 +324,7 @@ pub(crate) fn run_alike<'a>(
     requires ready { IsReady piece.now }
     requires narrow { (z : ℤ) → Contains (between outer.low outer.high) z → StatementIsNarrow (OwnIsSmall piece.now) (statement_of body.now) (in_turn outer z (symbols_of symbols.old)) }
     requires room { length symbols.old.bound < symbols.old.room }
-    requires fits { StatementFits (own_of piece.now) (space_of state.old) symbols.old.room (statement_of body.now) (length symbols.old.bound + 1) }
+    requires fits { StatementFits (kept_of piece.now) (space_of state.old) symbols.old.room (statement_of body.now) (length symbols.old.bound + 1) }
     ensures symbols { OnOk result (symbols.new ≡ symbols.old) }
     ensures large { OnOk result (IsAsLarge state.old state.new) }
     ensures next { IfOk result (λ z. outer.low ≤ℤ z) }

@@ -14,15 +14,18 @@ ghost use Rattle.interpreter.specs.Evaluation.Indices.{indices_in};
 ghost use Rattle.interpreter.specs.Bindings.{symbols_of};
 ghost use Rattle.interpreter.specs.Narrow.{PlacesAreNarrow};
 ghost use Rattle.interpreter.specs.Needs.{places_in};
-ghost use Rattle.interpreter.specs.Pieces.{around, setting, found_in, no_cells, IsReady};
+ghost use Rattle.interpreter.specs.Pieces.{around, setting, found_in, no_cells, IsReady, LineIsCoded};
+ghost use Rattle.interpreter.specs.Readings.{value_in};
 ghost use Rattle.interpreter.specs.States.{progress_of, EndsIn, IsAsLarge};
 ghost use Rattle.interpreter.specs.Steps.{steps};
 ghost use Rattle.interpreter.specs.Rows.{listed};
 ghost use Rattle.interpreter.specs.Targets.{indices_of, indices_of_all, target_of, known_number, target_number, CoordinateIsNarrow};
 
 use crate::buffers::{Room, Rooms};
+use crate::code::value_by;
 use crate::evaluation::{Stop, evaluate};
 use crate::forms::value_of;
+use crate::line_codes::code_at;
 use crate::piece::Piece;
 use crate::reading::Reading;
 use crate::row::Row;
@@ -33,7 +36,7 @@ use crate::visits::set;
 use plan::{Coordinate, Index, Places};
 use smallvec::SmallVec;
 use std::alloc::Global;
-use tree::Expr;
+use tree::{Expr, Value};
 
 /// The places of one coordinate.
 fn room(places: &Places, symbols: &Symbols) -> Room
@@ -159,10 +162,31 @@ fn of_reduction(numbers: &[i64], count: usize) -> &[i64]
     &numbers[count.min(numbers.len())..]
 }
 
+/// The value of a line, by its code where it has one.
+fn line_value(
+    buffer: u64,
+    definition: u64,
+    value: &Expr,
+    reading: &Reading<'_, '_>,
+    stack: &mut Row,
+) -> Option<Value>
+    requires ready { IsReady reading.now.piece.now }
+    requires code { LineIsCoded reading.now.piece.now buffer definition reading.now.coordinates.now (term_of value.now) }
+    requires room { length stack.old.items + indices_in (term_of value.now) ≤ stack.old.room }
+    ensures value { result ≡ value_in reading.now (term_of value.now) }
+    ensures stack { stack.new ≡ stack.old }
+{
+    match code_at(reading.piece.codes, buffer, definition) {
+        Some(code) => value_by(code, reading, stack),
+        None => evaluate(value, reading, stack),
+    }
+}
+
 /// Stores the value of a definition at a point. A pure definition's point is known, an update's may have to be found.
 pub(crate) fn store<'a>(
     piece: &'a Piece<'a>,
     buffer: u64,
+    definition: u64,
     coordinates: &'a [Coordinate],
     value: &Expr,
     symbols: &Symbols,
@@ -173,8 +197,9 @@ pub(crate) fn store<'a>(
     requires numbers { length coordinates.now ≤ state.old.numbers.room }
     requires point { length coordinates.now ≤ state.old.point.room }
     requires stack { indices_of_all coordinates.now + indices_in (term_of value.now) ≤ state.old.stack.room }
+    requires code { LineIsCoded piece.now buffer definition coordinates.now (term_of value.now) }
     ensures large { OnOk result (IsAsLarge state.old state.new) }
-    ensures store { (definition : ℕ) (cell : List ℕ → List ℤ → ValueFound) → EndsIn state.old.given.room (λ _. progress_of state.new) result (steps (around piece.now cell) (stored (setting piece.now) buffer definition (map coordinate_of coordinates.now) (term_of value.now) (symbols_of symbols.now) ∷ []) (progress_of state.old)) }
+    ensures store { (k : ℕ) (cell : List ℕ → List ℤ → ValueFound) → EndsIn state.old.given.room (λ _. progress_of state.new) result (steps (around piece.now cell) (stored (setting piece.now) buffer k (map coordinate_of coordinates.now) (term_of value.now) (symbols_of symbols.now) ∷ []) (progress_of state.old)) }
 {
     let count = size_in(piece.sizes, buffer);
     let place = of_function(coordinates, count);
@@ -198,7 +223,7 @@ pub(crate) fn store<'a>(
         memory: &state.memory,
         numbers: state.point.as_slice(),
     };
-    let Some(found) = evaluate(value, &right, &mut state.stack) else {
+    let Some(found) = line_value(buffer, definition, value, &right, &mut state.stack) else {
         return Err(Stop::Fault);
     };
     state.point.truncate(place.len());

@@ -15,7 +15,9 @@ use Rattle.interpreter.specs.declared.turns.Turns.{Turns}
 use Rattle.interpreter.specs.Bindings.{Bindings, symbols_of, also, Extends}
 use Rattle.interpreter.specs.Needs.{name_count, BlockFits, Space, StatementFits}
 use Rattle.interpreter.specs.Narrow.{StatementIsNarrow, BlockIsNarrow, IndexIsNarrow}
-use Rattle.interpreter.specs.Pieces.{around, own_of, setting, OwnIsSmall}
+use Rattle.interpreter.specs.Pieces.{around, kept_of, setting, OwnIsSmall}
+use Rattle.interpreter.specs.LineCodes.{IsCoded}
+use Rattle.interpreter.proofs.Storing.{names_is}
 use Rattle.interpreter.specs.States.{progress_of, space_of, EndsIn}
 use Rattle.interpreter.specs.Steps.{Progress, steps}
 use Rattle.interpreter.specs.Visits.{between}
@@ -42,7 +44,7 @@ run-run_block-requires g t c κs within =
     let e : statement_of c.args.stmt.now ≡ Seq (block (list_statements c.deref.result.now)) =
     ap statement_of c.in-Seq.is ∙ statement_of-seq c.in-Seq.all ∙ ap (λ (l : List Stmt). Seq (block (list_statements l))) (sym c.deref.ensures.value) in
     let narrow : BlockIsNarrow Own (block (list_statements c.deref.result.now)) s = subst (λ (a : Statement). StatementIsNarrow Own a s) e c.requires.narrow in
-    let fits = subst (λ (a : Statement). StatementFits (own_of c.args.piece.now) (space_of c.args.state.now) c.args.symbols.now.room a (length c.args.symbols.now.bound)) e c.requires.fits in
+    let fits = subst (λ (a : Statement). StatementFits (kept_of c.args.piece.now) (space_of c.args.state.now) c.args.symbols.now.room a (length c.args.symbols.now.bound)) e c.requires.fits in
     (search (rules, the_lemmas), (search rules, (c.requires.ready, (narrow, fits))))
 
 pub run-returns-in-Seq-clause-run : goal.run-returns-in-Seq-clause-run
@@ -91,8 +93,8 @@ run_block-loop-stmt-preserved g t c =
     let go : Progress → Option Progress = steps A (block_actions S (from all (i + 1)) (after (statement_of a) s)) in
     record {
       large = record { space = c.in_ok-run.ensures.large.space ∙ l.invariant.large.space; given = c.in_ok-run.ensures.large.given ∙ l.invariant.large.given };
-      fits = subst (λ (n : ℕ). BlockFits (own_of c.args.piece.now) (space_of c.args.state.now) c.args.symbols.now.room (from all (i + 1)) n) (sym (c.name_from.ensures.count ∙ ap (λ (b : Bindings). length b.bound + name_count (statement_of a)) kept))
-          (block_fits (own_of c.args.piece.now) (space_of c.args.state.now) c.args.symbols.now.room all i a (length l.symbols.bound) c.loop-stmt-test.true c.stmt-item.is l.invariant.fits).2;
+      fits = subst (λ (n : ℕ). BlockFits (kept_of c.args.piece.now) (space_of c.args.state.now) c.args.symbols.now.room (from all (i + 1)) n) (sym (c.name_from.ensures.count ∙ ap (λ (b : Bindings). length b.bound + name_count (statement_of a)) kept))
+          (block_fits (kept_of c.args.piece.now) (space_of c.args.state.now) c.args.symbols.now.room all i a (length l.symbols.bound) c.loop-stmt-test.true c.stmt-item.is l.invariant.fits).2;
       extends = extends_both c.args.symbols.now l.symbols new l.invariant.extends (subst (λ (b : Bindings). Extends b new) kept c.name_from.ensures.extends);
       narrow = subst (λ (y : Symbols). BlockIsNarrow Own (from all (i + 1)) y) (sym now) (block_narrow Own all i a s c.loop-stmt-test.true c.stmt-item.is l.invariant.narrow).1;
       run = goes_on (steps A (actions S (statement_of a) s) (progress_of l.state)) (progress_of c.run.new.state) go whole (block_next A S all i a s (progress_of l.state) whole c.loop-stmt-test.true c.stmt-item.is l.invariant.run) c.in_ok-run.ensures.run
@@ -120,7 +122,7 @@ run_turns-run-requires g t c κs within =
     bound_now l.symbols c.bind.new.self c.turn.result turns.symbol z (int_le z turns.low) made is ∙ ap (λ (b : Bindings). bind (symbols_of b) turns.symbol z (int_le z turns.low)) l.invariant.symbols in
     let Own : Symbols → Type 0 = OwnIsSmall x in
     let narrow : StatementIsNarrow Own body (symbols_of c.bind.new.self) = subst (λ (y : Symbols). StatementIsNarrow Own body y) (sym now) (c.requires.narrow z (between_has turns.low turns.high z from_low to_high)) in
-    let own = own_of c.args.piece.now in
+    let own = kept_of c.args.piece.now in
     let space = space_of c.args.state.now in
     let more : c.bind.new.self ≡ also old c.turn.result = made ∙ ap (λ (b : Bindings). also b c.turn.result) l.invariant.symbols in
     let one : length old.bound + 1 ≡ length c.bind.new.self.bound = sym (ap (λ (b : Bindings). length b.bound) more ∙ length-append old.bound (c.turn.result ∷ [])) in
@@ -231,7 +233,7 @@ run-run_turns-requires g t c κs within =
     let P : Turns → Type 0 = λ r. (z : ℤ) → Contains (between r.low r.high) z → StatementIsNarrow Own body (bind s r.symbol z (int_le z r.low)) in
     let Q : Stmt → Type 0 = λ b. (z : ℤ) → Contains (between (largest s c.in-For.span.lower) (smallest s c.in-For.span.upper)) z → StatementIsNarrow Own (statement_of b) (bind s c.in-For.symbol z (int_le z (largest s c.in-For.span.lower))) in
     let narrow : P c.turns_of-turns.result = subst P (sym c.turns_of-turns.ensures) (subst Q (sym same) (subst (λ (a : Stmt). StatementIsNarrow Own (statement_of a) s) c.in-For.is c.requires.narrow).1) in
-    let own = own_of c.args.piece.now in
+    let own = kept_of c.args.piece.now in
     let space = space_of c.args.state.now in
     let n = length c.args.symbols.now.bound in
     let R : Stmt → Type 0 = λ b. (n < c.args.symbols.now.room) × StatementFits own space c.args.symbols.now.room (statement_of b) (n + 1) in
@@ -262,9 +264,9 @@ run_block-run-requires g t c κs within =
     let all = c.args.all.now in
     let n = length l.symbols.bound in
     let narrow = (block_narrow Own all i a (symbols_of l.symbols) c.loop-stmt-test.true c.stmt-item.is l.invariant.narrow).0 in
-    let here = (block_fits (own_of c.args.piece.now) (space_of c.args.state.now) c.args.symbols.now.room all i a n c.loop-stmt-test.true c.stmt-item.is l.invariant.fits).0 in
-    let fits = subst (λ (w : Space). StatementFits (own_of x) w l.symbols.room (statement_of a) n) (sym l.invariant.large.space)
-    (subst (λ (m : ℕ). StatementFits (own_of c.args.piece.now) (space_of c.args.state.now) m (statement_of a) n) (sym l.invariant.extends.room) here) in
+    let here = (block_fits (kept_of c.args.piece.now) (space_of c.args.state.now) c.args.symbols.now.room all i a n c.loop-stmt-test.true c.stmt-item.is l.invariant.fits).0 in
+    let fits = subst (λ (w : Space). StatementFits (kept_of x) w l.symbols.room (statement_of a) n) (sym l.invariant.large.space)
+    (subst (λ (m : ℕ). StatementFits (kept_of c.args.piece.now) (space_of c.args.state.now) m (statement_of a) n) (sym l.invariant.extends.room) here) in
     (first_of (search (rules, the_lemmas), omega arith), (search rules, (c.requires.ready, (narrow, fits))))
 
 pub run_turns-run_stores-requires-clause-narrow : goal.run_turns-run_stores-requires-clause-narrow
@@ -279,7 +281,7 @@ run_turns-run_stores-requires-clause-narrow g t c = λ z inside.
 
 pub run_turns-run_stores-requires-clause-numbers : goal.run_turns-run_stores-requires-clause-numbers
 run_turns-run_stores-requires-clause-numbers g t c =
-    let own = own_of c.args.piece.now in
+    let own = kept_of c.args.piece.now in
     let space = space_of c.args.state.now in
     let n = length c.args.symbols.now.bound + 1 in
     let is = c.in-Some.ensures in
@@ -289,7 +291,7 @@ run_turns-run_stores-requires-clause-numbers g t c =
 
 pub run_turns-run_stores-requires-clause-point : goal.run_turns-run_stores-requires-clause-point
 run_turns-run_stores-requires-clause-point g t c =
-    let own = own_of c.args.piece.now in
+    let own = kept_of c.args.piece.now in
     let space = space_of c.args.state.now in
     let n = length c.args.symbols.now.bound + 1 in
     let is = c.in-Some.ensures in
@@ -299,7 +301,7 @@ run_turns-run_stores-requires-clause-point g t c =
 
 pub run_turns-run_stores-requires-clause-stack : goal.run_turns-run_stores-requires-clause-stack
 run_turns-run_stores-requires-clause-stack g t c =
-    let own = own_of c.args.piece.now in
+    let own = kept_of c.args.piece.now in
     let space = space_of c.args.state.now in
     let n = length c.args.symbols.now.bound + 1 in
     let is = c.in-Some.ensures in
@@ -307,6 +309,16 @@ run_turns-run_stores-requires-clause-stack g t c =
     let k = indices_in (term_of c.in-Some.line.value.now) in
     let fits = subst (λ (a : Statement). StatementFits own space c.args.symbols.now.room a n) is.store.is (line_fits own space c.args.symbols.now.room n (statement_of c.args.body.now) is.line is.one c.requires.fits) in
     subst (λ (m : ℕ). m + k ≤ c.args.state.now.stack.room) (sym (indices_mapped cs)) fits.2
+
+pub run_turns-run_stores-requires-clause-code : goal.run_turns-run_stores-requires-clause-code
+run_turns-run_stores-requires-clause-code g t c =
+    let own = kept_of c.args.piece.now in
+    let space = space_of c.args.state.now in
+    let n = length c.args.symbols.now.bound + 1 in
+    let is = c.in-Some.ensures in
+    let line = c.in-Some.line in
+    let fits = subst (λ (a : Statement). StatementFits own space c.args.symbols.now.room a n) is.store.is (line_fits own space c.args.symbols.now.room n (statement_of c.args.body.now) is.line is.one c.requires.fits) in
+    subst (λ (names : List (List ℕ)). IsCoded own.codes line.buffer line.definition names (term_of line.value.now)) (names_is line.coordinates.now) fits.3
 
 pub run_turns-returns-in-Some-clause-run : goal.run_turns-returns-in-Some-clause-run
 run_turns-returns-in-Some-clause-run g t c =
@@ -322,11 +334,11 @@ run_turns-returns-in-Some-clause-run g t c =
     let p = progress_of c.args.state.now in
     let now : ℤ → Symbols = λ z. bind s turns.symbol z (int_le z turns.low) in
     let f : ℤ → List Action = λ z. actions S a (now z) in
-    let stores : ℤ → List Action = store_at x line.buffer line.coordinates.now (term_of line.value.now) s turns.symbol turns.low is.store.definition in
+    let stores : ℤ → List Action = store_at x line.buffer line.coordinates.now (term_of line.value.now) s turns.symbol turns.low line.definition in
     let each : (z : ℤ) → stores z ≡ f z = λ z. sym (line_actions S (now z) a is.line is.one ∙ ap (λ (b : Statement). actions S b (now z)) is.store.is) in
     let same : stores ≡ f = λ i z. each z i in
     subst (λ (h : ℤ → List Action). EndsIn c.args.state.now.given.room (λ (_ : Unit {0}). progress_of c.run_stores.new.state) c.run_stores.result (steps A (flat_map h (between turns.low turns.high)) p)) same
-    (c.run_stores.ensures.run is.store.definition cell)
+    (c.run_stores.ensures.run line.definition cell)
 
 pub run_turns-run_joined-requires-clause-narrow : goal.run_turns-run_joined-requires-clause-narrow
 run_turns-run_joined-requires-clause-narrow g t c =
@@ -338,31 +350,38 @@ run_turns-run_joined-requires-clause-form g t c =
 
 pub run_turns-run_joined-requires-clause-symbols : goal.run_turns-run_joined-requires-clause-symbols
 run_turns-run_joined-requires-clause-symbols g t c =
-    let own = own_of c.args.piece.now in
+    let own = kept_of c.args.piece.now in
     let space = space_of c.args.state.now in
     let n = length c.args.symbols.now.bound + 1 in
     (loops_fit own space c.args.symbols.now.room n (statement_of c.args.body.now) c.in-Some-joined_loops.both.inner c.in-Some-joined_loops.ensures.loop c.requires.fits).symbols
 
 pub run_turns-run_joined-requires-clause-numbers : goal.run_turns-run_joined-requires-clause-numbers
 run_turns-run_joined-requires-clause-numbers g t c =
-    let own = own_of c.args.piece.now in
+    let own = kept_of c.args.piece.now in
     let space = space_of c.args.state.now in
     let n = length c.args.symbols.now.bound + 1 in
     (loops_fit own space c.args.symbols.now.room n (statement_of c.args.body.now) c.in-Some-joined_loops.both.inner c.in-Some-joined_loops.ensures.loop c.requires.fits).numbers
 
 pub run_turns-run_joined-requires-clause-point : goal.run_turns-run_joined-requires-clause-point
 run_turns-run_joined-requires-clause-point g t c =
-    let own = own_of c.args.piece.now in
+    let own = kept_of c.args.piece.now in
     let space = space_of c.args.state.now in
     let n = length c.args.symbols.now.bound + 1 in
     (loops_fit own space c.args.symbols.now.room n (statement_of c.args.body.now) c.in-Some-joined_loops.both.inner c.in-Some-joined_loops.ensures.loop c.requires.fits).point
 
 pub run_turns-run_joined-requires-clause-stack : goal.run_turns-run_joined-requires-clause-stack
 run_turns-run_joined-requires-clause-stack g t c =
-    let own = own_of c.args.piece.now in
+    let own = kept_of c.args.piece.now in
     let space = space_of c.args.state.now in
     let n = length c.args.symbols.now.bound + 1 in
     (loops_fit own space c.args.symbols.now.room n (statement_of c.args.body.now) c.in-Some-joined_loops.both.inner c.in-Some-joined_loops.ensures.loop c.requires.fits).stack
+
+pub run_turns-run_joined-requires-clause-code : goal.run_turns-run_joined-requires-clause-code
+run_turns-run_joined-requires-clause-code g t c =
+    let own = kept_of c.args.piece.now in
+    let space = space_of c.args.state.now in
+    let n = length c.args.symbols.now.bound + 1 in
+    (loops_fit own space c.args.symbols.now.room n (statement_of c.args.body.now) c.in-Some-joined_loops.both.inner c.in-Some-joined_loops.ensures.loop c.requires.fits).code
 
 pub run_turns-returns-in-Some-joined_loops-clause-run : goal.run_turns-returns-in-Some-joined_loops-clause-run
 run_turns-returns-in-Some-joined_loops-clause-run g t c =
@@ -372,7 +391,7 @@ run_turns-returns-in-Some-joined_loops-clause-run g t c =
     let h = c.in-Some-joined_loops.ensures in
     let same = loops_run x (symbols_of c.args.symbols.now) c.args.turns (statement_of c.args.body.now) c.in-Some-joined_loops.both h in
     subst (λ (l : List Action). EndsIn c.args.state.now.given.room (λ (_ : Unit {0}). progress_of c.run_joined.new.state) c.run_joined.result (steps (around x cell) l p)) (sym same)
-    (c.run_joined.ensures.run h.loop.is.line.store.definition cell)
+    (c.run_joined.ensures.run c.in-Some-joined_loops.both.inner.line.definition cell)
 
 pub run_turns-loop-value-init : goal.run_turns-loop-value-init
 run_turns-loop-value-init g t c =

@@ -8,7 +8,7 @@ use Rattle.plan.specs.Semantics.Actions.{Action, actions, block_actions}
 use Rattle.interpreter.specs.Bindings.{symbols_of, Extends}
 use Rattle.interpreter.specs.Needs.{BlockFits}
 use Rattle.interpreter.specs.Narrow.{BlockIsNarrow}
-use Rattle.interpreter.specs.Pieces.{around, own_of, setting, OwnIsSmall}
+use Rattle.interpreter.specs.Pieces.{around, kept_of, setting, OwnIsSmall}
 use Rattle.interpreter.specs.States.{progress_of, space_of, IsAsLarge}
 use Rattle.interpreter.specs.Steps.{steps}
 use Rattle.interpreter.specs.Visits.{between}
@@ -32,7 +32,7 @@ invariant-run_block-loop-stmt g l =
     let whole = steps A (block_actions (setting l.piece) (block (list_statements l.all)) (symbols_of l.initial.symbols)) (progress_of l.initial.state) in
     record {
       large : IsAsLarge l.initial.state l.state;
-      fits : BlockFits (own_of l.piece) (space_of l.initial.state) l.initial.symbols.room (from l.all l.stmt-index) (length l.symbols.bound);
+      fits : BlockFits (kept_of l.piece) (space_of l.initial.state) l.initial.symbols.room (from l.all l.stmt-index) (length l.symbols.bound);
       extends : Extends l.initial.symbols l.symbols;
       narrow : BlockIsNarrow (OwnIsSmall l.piece) (from l.all l.stmt-index) (symbols_of l.symbols);
       run : Comes A whole (block_actions (setting l.piece) (from l.all l.stmt-index) (symbols_of l.symbols)) (progress_of l.state);

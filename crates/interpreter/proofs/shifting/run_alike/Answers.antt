@@ -8,7 +8,7 @@ use Rattle.plan.specs.View.{statement_of}
 use Rattle.plan.specs.Semantics.Actions.{Action, actions}
 use Rattle.interpreter.specs.Bindings.{Bindings, symbols_of}
 use Rattle.interpreter.specs.Joining.{in_first}
-use Rattle.interpreter.specs.Pieces.{around, own_of, setting, OwnIsSmall}
+use Rattle.interpreter.specs.Pieces.{around, kept_of, setting, OwnIsSmall}
 use Rattle.interpreter.specs.Runs.{store_at}
 use Rattle.interpreter.specs.Shifting.{in_name, in_turn, NameIsNarrow}
 use Rattle.interpreter.specs.States.{progress_of, space_of, EndsIn}
@@ -47,24 +47,29 @@ run_named-requires-clause-narrow c = λ z inside.
 pub run_named-requires-clause-symbols : goal.run_named-requires-clause-symbols
 run_named-requires-clause-symbols c =
     let old = c.args.symbols.now in
-    let fits = named_fits (own_of c.args.piece.now) (space_of c.args.state.now) old.room (length old.bound + 1) (statement_of c.args.body.now) c.in-Some.both c.in-Some.ensures c.requires.fits in
+    let fits = named_fits (kept_of c.args.piece.now) (space_of c.args.state.now) old.room (length old.bound + 1) (statement_of c.args.body.now) c.in-Some.both c.in-Some.ensures c.requires.fits in
     let more : length old.bound + 2 < old.room = omega (arith, fits.symbols) in
     subst (λ (b : Bindings). length b.bound + 2 < b.room) (sym c.alike_turns.ensures.symbols) more
 
 pub run_named-requires-clause-numbers : goal.run_named-requires-clause-numbers
 run_named-requires-clause-numbers c =
     let old = c.args.symbols.now in
-    (named_fits (own_of c.args.piece.now) (space_of c.args.state.now) old.room (length old.bound + 1) (statement_of c.args.body.now) c.in-Some.both c.in-Some.ensures c.requires.fits).numbers
+    (named_fits (kept_of c.args.piece.now) (space_of c.args.state.now) old.room (length old.bound + 1) (statement_of c.args.body.now) c.in-Some.both c.in-Some.ensures c.requires.fits).numbers
 
 pub run_named-requires-clause-point : goal.run_named-requires-clause-point
 run_named-requires-clause-point c =
     let old = c.args.symbols.now in
-    (named_fits (own_of c.args.piece.now) (space_of c.args.state.now) old.room (length old.bound + 1) (statement_of c.args.body.now) c.in-Some.both c.in-Some.ensures c.requires.fits).point
+    (named_fits (kept_of c.args.piece.now) (space_of c.args.state.now) old.room (length old.bound + 1) (statement_of c.args.body.now) c.in-Some.both c.in-Some.ensures c.requires.fits).point
 
 pub run_named-requires-clause-stack : goal.run_named-requires-clause-stack
 run_named-requires-clause-stack c =
     let old = c.args.symbols.now in
-    (named_fits (own_of c.args.piece.now) (space_of c.args.state.now) old.room (length old.bound + 1) (statement_of c.args.body.now) c.in-Some.both c.in-Some.ensures c.requires.fits).stack
+    (named_fits (kept_of c.args.piece.now) (space_of c.args.state.now) old.room (length old.bound + 1) (statement_of c.args.body.now) c.in-Some.both c.in-Some.ensures c.requires.fits).stack
+
+pub run_named-requires-clause-code : goal.run_named-requires-clause-code
+run_named-requires-clause-code c =
+    let old = c.args.symbols.now in
+    (named_fits (kept_of c.args.piece.now) (space_of c.args.state.now) old.room (length old.bound + 1) (statement_of c.args.body.now) c.in-Some.both c.in-Some.ensures c.requires.fits).code
 
 pub returns-clause-next : goal.returns-clause-next
 returns-clause-next c =
@@ -87,7 +92,7 @@ returns-clause-run c = λ cell.
     let new = progress_of c.run_named.new.state in
     let f : ℤ → List Action = λ z. actions (setting x) body (in_turn t z s) in
     let line = both.inner.line in
-    let d = c.in-Some.ensures.inner.is.line.store.definition in
+    let d = c.in-Some.both.inner.line.definition in
     let stores : Bindings → List Action = λ b.
     flat_map (store_at x line.buffer line.coordinates.now (term_of line.value.now) (in_name both.name (in_first t (symbols_of b))) y.turns.symbol y.turns.low d) (between y.turns.low y.turns.high) in
     let whole = parts A f t.low t.high y.next h.turns.turns p (next_is t both s y h) (next_within t both s y h) in
@@ -113,7 +118,7 @@ returns-in_err-run_named-clause-run c = λ cell.
     let new = progress_of c.run_named.new.state in
     let f : ℤ → List Action = λ z. actions (setting x) body (in_turn t z s) in
     let line = both.inner.line in
-    let d = c.in-Some.ensures.inner.is.line.store.definition in
+    let d = c.in-Some.both.inner.line.definition in
     let stores : Bindings → List Action = λ b.
     flat_map (store_at x line.buffer line.coordinates.now (term_of line.value.now) (in_name both.name (in_first t (symbols_of b))) y.turns.symbol y.turns.low d) (between y.turns.low y.turns.high) in
     let whole : Option Progress = steps A (flat_map f (between t.low t.high)) p in

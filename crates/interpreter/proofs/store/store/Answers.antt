@@ -47,10 +47,10 @@ append-requires c =
     ap length (c.of_reduction.ensures ∙ ap (drop n) (c.as_slice-2.ensures ∙ ap (λ (r : Listed). r.items) c.known_numbers.ensures)) in
     omega (arith, whole, front, back, c.find_point.ensures.room, c.requires.point)
 
-pub evaluate-requires : goal.evaluate-requires
-evaluate-requires c =
+pub line_value-requires-clause-room : goal.line_value-requires-clause-room
+line_value-requires-clause-room c =
     let k = indices_in (term_of c.args.value.now) in
-    record { room = subst (λ (r : Listed). length r.items + k ≤ r.room) (sym (c.find_point.ensures.stack ∙ c.clear.ensures)) (omega (arith, c.requires.stack)) }
+    subst (λ (r : Listed). length r.items + k ≤ r.room) (sym (c.find_point.ensures.stack ∙ c.clear.ensures)) (omega (arith, c.requires.stack))
 
 pub returns-in_default-clause-store : goal.returns-in_default-clause-store
 returns-in_default-clause-store c = λ k cell.
@@ -72,8 +72,8 @@ returns-in_default-clause-store c = λ k cell.
     let none : o ≡ None = c.in_default.ensures.point in
     head ∙ ap (λ (q : Option (List ℤ)). with q go) none
 
-pub returns-in_default-evaluate-clause-store : goal.returns-in_default-evaluate-clause-store
-returns-in_default-evaluate-clause-store c = λ k cell.
+pub returns-in_default-line_value-clause-store : goal.returns-in_default-line_value-clause-store
+returns-in_default-line_value-clause-store c = λ k cell.
     let x = c.args.piece.now in
     let p = progress_of c.args.state.now in
     let m = p.memory in
@@ -94,7 +94,7 @@ returns-in_default-evaluate-clause-store c = λ k cell.
     let reduced : c.of_reduction.result.now ≡ drop n ns = c.of_reduction.ensures ∙ ap (drop n) (c.as_slice-2.ensures ∙ sym c.as_slice.ensures) in
     let rest : c.as_slice-3.result.now ≡ q ++ drop n ns = c.as_slice-3.ensures ∙ ap (λ (r : Listed). r.items) c.append.ensures ∙ ap (λ (l : List ℤ). q ++ l) reduced in
     let placed = head ∙ ap (λ (l : Option (List ℤ)). with l go) here ∙ ap (λ (l : List ℤ). with (find l) (sets c.args.buffer p q)) (sym rest) in
-    let none : find c.as_slice-3.result.now ≡ None = sym c.evaluate.ensures.value ∙ c.in_default-evaluate.is in
+    let none : find c.as_slice-3.result.now ≡ None = sym c.line_value.ensures.value ∙ c.in_default-line_value.is in
     placed ∙ ap (λ (l : Option Value). with l (sets c.args.buffer p q)) none
 
 pub returns-clause-store : goal.returns-clause-store
@@ -119,8 +119,8 @@ returns-clause-store c = λ k cell.
     let reduced : c.of_reduction.result.now ≡ drop n ns = c.of_reduction.ensures ∙ ap (drop n) (c.as_slice-2.ensures ∙ sym c.as_slice.ensures) in
     let rest : c.as_slice-3.result.now ≡ q ++ drop n ns = c.as_slice-3.ensures ∙ ap (λ (r : Listed). r.items) c.append.ensures ∙ ap (λ (l : List ℤ). q ++ l) reduced in
     let placed = head ∙ ap (λ (l : Option (List ℤ)). with l go) here ∙ ap (λ (l : List ℤ). with (find l) (sets c.args.buffer p q)) (sym rest) in
-    let v = c.in-Some-evaluate.found in
-    let some : find c.as_slice-3.result.now ≡ Some v = sym c.evaluate.ensures.value ∙ c.in-Some-evaluate.is in
+    let v = c.in-Some-line_value.found in
+    let some : find c.as_slice-3.result.now ≡ Some v = sym c.line_value.ensures.value ∙ c.in-Some-line_value.is in
     let done = placed ∙ ap (λ (l : Option Value). with l (sets c.args.buffer p q)) some in
     let long : length at ≡ length q = sym c.in-Some.ensures.count in
     let behind : c.append.new.self.items ≡ q ++ c.of_reduction.result.now = ap (λ (r : Listed). r.items) c.append.ensures in
