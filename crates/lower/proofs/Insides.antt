@@ -105,22 +105,25 @@ within_decides x v ls = (within_is x v ls, λ h. within_has x v ls h.0 h.1 h.2 h
 called_decides : (f : FormulaText) (x : List ℕ) → Decides (are_calls_of x (calls_in f)) (Uses f x)
 called_decides f x = any_decides (λ c. same_name c.name x) (λ c. c.name ≡ x) (λ c. name_decides c.name x) (calls_in f)
 
-misses_decides : (gs : List StoredText) (x v : List ℕ) (ls : List Loop) (f : FormulaText) → Decides (misses_loop gs x v ls f) (MissesLoop gs x v ls f)
-misses_decides gs x v ls f = Decides-and (not (has_loop_of ls f v)) (list_any (λ y. are_calls_of y (calls_in f)) (leading gs (x ∷ [])))
+other_decides_called : (f : FormulaText) (o y : List ℕ) → Decides (not (same_name y o) && are_calls_of y (calls_in f)) ((y ≢ o) × Uses f y)
+other_decides_called f o y = Decides-and (not (same_name y o)) (are_calls_of y (calls_in f)) (Decides-not (same_name y o) (name_decides y o)) (called_decides f y)
+
+misses_decides : (gs : List StoredText) (o x v : List ℕ) (ls : List Loop) (f : FormulaText) → Decides (misses_loop gs o x v ls f) (MissesLoop gs o x v ls f)
+misses_decides gs o x v ls f = Decides-and (not (has_loop_of ls f v)) (list_any (λ y. not (same_name y o) && are_calls_of y (calls_in f)) (leading gs (x ∷ [])))
     (Decides-not (has_loop_of ls f v) (has_loop_decides ls f v))
-    (any_decides (λ y. are_calls_of y (calls_in f)) (Uses f) (called_decides f) (leading gs (x ∷ [])))
+    (any_decides (λ y. not (same_name y o) && are_calls_of y (calls_in f)) (λ y. (y ≢ o) × Uses f y) (other_decides_called f o) (leading gs (x ∷ [])))
 
 some_decides : (gs : List StoredText) (x v : List ℕ) (g : StoredText)
-    → Decides (some_misses gs x v g) (IsSomeAnd g.formulas (λ fs. Any (MissesLoop gs x v g.placed.loops) fs))
-some_decides gs x v g = passes_decides (list_any (misses_loop gs x v g.placed.loops)) (λ fs. Any (MissesLoop gs x v g.placed.loops) fs)
-    (λ fs. any_decides (misses_loop gs x v g.placed.loops) (MissesLoop gs x v g.placed.loops) (misses_decides gs x v g.placed.loops) fs) g.formulas
+    → Decides (some_misses gs x v g) (IsSomeAnd g.formulas (λ fs. Any (MissesLoop gs g.subject.name x v g.placed.loops) fs))
+some_decides gs x v g = passes_decides (list_any (misses_loop gs g.subject.name x v g.placed.loops)) (λ fs. Any (MissesLoop gs g.subject.name x v g.placed.loops) fs)
+    (λ fs. any_decides (misses_loop gs g.subject.name x v g.placed.loops) (MissesLoop gs g.subject.name x v g.placed.loops) (misses_decides gs g.subject.name x v g.placed.loops) fs) g.formulas
 
 leads_decides : (gs bs : List StoredText) (x : List ℕ) (h v : Home) → Decides (leads_inside gs bs x h v) (LeadsInside gs (length bs) x h v)
 leads_decides gs [] x h v = (λ e. absurd (false≢true e), λ e. absurd e)
 leads_decides gs (b ∷ bs) x h v = passes_decides
     (λ g. if same_name h.function v.function then is_within h.turn v.turn g.placed.loops && not (some_misses gs x v.turn g)
     else passes (λ k. leads_inside gs bs g.subject.name k v) (home_of g))
-    (λ g. ((h.function ≡ v.function) × (IsWithin h.turn v.turn g.placed.loops × ¬ IsSomeAnd g.formulas (λ fs. Any (MissesLoop gs x v.turn g.placed.loops) fs)))
+    (λ g. ((h.function ≡ v.function) × (IsWithin h.turn v.turn g.placed.loops × ¬ IsSomeAnd g.formulas (λ fs. Any (MissesLoop gs g.subject.name x v.turn g.placed.loops) fs)))
     ⊎ ((h.function ≢ v.function) × IsSomeAnd (home_of g) (λ k. LeadsInside gs (length bs) g.subject.name k v)))
     (λ g. if_decides (same_name h.function v.function) (is_within h.turn v.turn g.placed.loops && not (some_misses gs x v.turn g))
     (passes (λ k. leads_inside gs bs g.subject.name k v) (home_of g)) (name_decides h.function v.function)
@@ -174,12 +177,12 @@ user_large xs s e inside = sym (λ j. not (inside j) && passes (λ fs. list_any 
 
 -- whether some definition of a function lacks the loop
 pub misses_found : {E : Type 0} (gs : List StoredText) (x w : List ℕ) (s : Stored) (v : Vec Formula) (r : Result Bool E) → s.formulas ≡ Some v
-    → IfOk r (λ yes. yes ≡ list_any (misses_loop gs x w (stored_of s).placed.loops) (map formula_of v.items)) → IfOk r (λ yes. yes ≡ some_misses gs x w (stored_of s))
-misses_found gs x w s v r e is = IfOk-weaker r (λ yes. yes ≡ list_any (misses_loop gs x w (stored_of s).placed.loops) (map formula_of v.items))
-    (λ yes. yes ≡ some_misses gs x w (stored_of s)) (λ yes i. i ∙ sym (λ j. passes (list_any (misses_loop gs x w (stored_of s).placed.loops)) (formulas_at s v e j))) is
+    → IfOk r (λ yes. yes ≡ list_any (misses_loop gs (stored_of s).subject.name x w (stored_of s).placed.loops) (map formula_of v.items)) → IfOk r (λ yes. yes ≡ some_misses gs x w (stored_of s))
+misses_found gs x w s v r e is = IfOk-weaker r (λ yes. yes ≡ list_any (misses_loop gs (stored_of s).subject.name x w (stored_of s).placed.loops) (map formula_of v.items))
+    (λ yes. yes ≡ some_misses gs x w (stored_of s)) (λ yes i. i ∙ sym (λ j. passes (list_any (misses_loop gs (stored_of s).subject.name x w (stored_of s).placed.loops)) (formulas_at s v e j))) is
 
 pub misses_large : (gs : List StoredText) (x w : List ℕ) (s : Stored) → s.formulas ≡ None → false ≡ some_misses gs x w (stored_of s)
-misses_large gs x w s e = sym (λ j. passes (list_any (misses_loop gs x w (stored_of s).placed.loops)) (no_formulas s e j))
+misses_large gs x w s e = sym (λ j. passes (list_any (misses_loop gs (stored_of s).subject.name x w (stored_of s).placed.loops)) (no_formulas s e j))
 
 pub outside_found : {E : Type 0} (gs : List StoredText) (x : List ℕ) (h : Home) (s : Stored) (v : Vec Formula) (r : Result Bool E)
     → s.formulas ≡ Some v → same_name (stored_of s).subject.name x ≡ false

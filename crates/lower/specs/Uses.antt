@@ -54,9 +54,9 @@ leading (g ∷ gs) xs = leading gs (with_user xs g)
 abbrev pub Uses : FormulaText → List ℕ → Type 0
 Uses f x = Any (λ c. c.name ≡ x) (calls_in f)
 
--- x is computed in the nest of the definition, which uses it, itself or through functions that are computed there, and the nest lacks the loop v
-abbrev pub MissesLoop : List StoredText → List ℕ → List ℕ → List Loop → FormulaText → Type 0
-MissesLoop gs x v ls f = (¬ HasLoop ls f v) × Any (Uses f) (leading gs (x ∷ []))
+-- x is computed in the nest of this definition of the function o, which uses it, itself or through other functions that are computed there, and the nest lacks the loop v
+abbrev pub MissesLoop : List StoredText → List ℕ → List ℕ → List ℕ → List Loop → FormulaText → Type 0
+MissesLoop gs o x v ls f = (¬ HasLoop ls f v) × Any (λ y. (y ≢ o) × Uses f y) (leading gs (x ∷ []))
 
 -- What is computed at the loop of h, which is the function x, is computed at the loop of v or inside of it, by at most so many homes: both are loops of one
 -- function, of which that of h is that of v or stands inside of it, in each definition in whose nest x is computed; or the function that has the loop of h is
@@ -65,7 +65,7 @@ abbrev pub LeadsInside : List StoredText → ℕ → List ℕ → Home → Home 
 LeadsInside gs zero x h v = ⊥
 LeadsInside gs (suc n) x h v =
     IsSomeAnd (stored_named gs h.function) (λ g.
-    ((h.function ≡ v.function) × (IsWithin h.turn v.turn g.placed.loops × ¬ IsSomeAnd g.formulas (λ fs. Any (MissesLoop gs x v.turn g.placed.loops) fs)))
+    ((h.function ≡ v.function) × (IsWithin h.turn v.turn g.placed.loops × ¬ IsSomeAnd g.formulas (λ fs. Any (MissesLoop gs g.subject.name x v.turn g.placed.loops) fs)))
     ⊎ ((h.function ≢ v.function) × IsSomeAnd (home_of g) (λ k. LeadsInside gs n g.subject.name k v)))
 
 -- ---- uses
@@ -116,12 +116,12 @@ abbrev pub is_within : List ℕ → List ℕ → List Loop → Bool
 is_within x v [] = false
 is_within x v (l ∷ ls) = same_name l.name x || (not (same_name l.name v) && is_within x v ls)
 
-abbrev pub misses_loop : List StoredText → List ℕ → List ℕ → List Loop → FormulaText → Bool
-misses_loop gs x v ls f = not (has_loop_of ls f v) && list_any (λ y. are_calls_of y (calls_in f)) (leading gs (x ∷ []))
+abbrev pub misses_loop : List StoredText → List ℕ → List ℕ → List ℕ → List Loop → FormulaText → Bool
+misses_loop gs o x v ls f = not (has_loop_of ls f v) && list_any (λ y. not (same_name y o) && are_calls_of y (calls_in f)) (leading gs (x ∷ []))
 
 -- in the nest of some definition
 abbrev pub some_misses : List StoredText → List ℕ → List ℕ → StoredText → Bool
-some_misses gs x v g = passes (list_any (misses_loop gs x v g.placed.loops)) g.formulas
+some_misses gs x v g = passes (list_any (misses_loop gs g.subject.name x v g.placed.loops)) g.formulas
 
 -- by one home for each of these functions
 abbrev pub leads_inside : List StoredText → List StoredText → List ℕ → Home → Home → Bool

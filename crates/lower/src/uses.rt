@@ -4,6 +4,7 @@ ghost use Rattle.std.specs.Prelude.{◌≡◌, ◌&&◌, [], ◌∷◌, Decides,
 ghost use Rattle.std.specs.List.{list_any};
 ghost use Rattle.std.specs.Option.{option_map};
 ghost use Rattle.lower.specs.Calls.{call_of};
+ghost use Rattle.meaning.specs.Names.{same_name};
 ghost use Rattle.lower.specs.Stored.{are_calls_of as calls_of_name, formula_of, some_calls, stored_of};
 ghost use Rattle.lower.specs.Faults as spec;
 ghost use Rattle.lower.specs.Uses as uses;
@@ -154,54 +155,62 @@ fn leading_to(alloc: Global, stored: &[Stored<'_>], name: &Name) -> Result<Vec<N
     leading(alloc, stored, names)
 }
 
-// Whether one of these is called.
-fn is_called(names: &[Name], calls: &[Call<'_>]) -> bool
-    ensures { result ≡ list_any (λ y. calls_of_name y (map call_of calls.now)) names.now }
+// Whether one of these is called, but for this one.
+fn is_called(own: &Name, names: &[Name], calls: &[Call<'_>]) -> bool
+    ensures { result ≡ list_any (λ y. not (same_name y own.now) && calls_of_name y (map call_of calls.now)) names.now }
 {
     match names {
         [] => false,
-        [name, rest @ ..] => are_calls_of(name.as_str(), calls) || is_called(rest, calls),
+        [name, rest @ ..] => {
+            if !same_name(name.as_str(), own.as_str()) && are_calls_of(name.as_str(), calls) {
+                return true;
+            }
+            is_called(own, rest, calls)
+        }
     }
 }
 
-// Whether a function is computed in the nest of a definition, and the nest lacks the loop.
+// Whether a function is computed in the nest of a definition of this other one, and the nest lacks the loop. That a definition calls
+// its own function is no use of what is computed there.
 fn misses_loop(
     alloc: Global,
     stored: &[Stored<'_>],
+    own: &Name,
     name: &Name,
     turn: &Name,
     loops: &[Loop],
     formula: &Formula,
 ) -> Result<bool, AllocError>
-    ensures { IfOk result (λ yes. yes ≡ uses.misses_loop (map stored_of stored.now) name.now turn.now loops.now (formula_of formula.now)) }
+    ensures { IfOk result (λ yes. yes ≡ uses.misses_loop (map stored_of stored.now) own.now name.now turn.now loops.now (formula_of formula.now)) }
 {
     if has_loop(loops, formula, turn) {
         return Ok(false);
     }
     let names = leading_to(alloc, stored, name)?;
     let calls = calls_of(alloc, formula)?;
-    Ok(is_called(&names, &calls))
+    Ok(is_called(own, &names, &calls))
 }
 
 // The same of one of these definitions.
 fn one_misses(
     alloc: Global,
     stored: &[Stored<'_>],
+    own: &Name,
     name: &Name,
     turn: &Name,
     loops: &[Loop],
     formulas: &[Formula],
 ) -> Result<bool, AllocError>
-    ensures { IfOk result (λ yes. yes ≡ list_any (uses.misses_loop (map stored_of stored.now) name.now turn.now loops.now)
+    ensures { IfOk result (λ yes. yes ≡ list_any (uses.misses_loop (map stored_of stored.now) own.now name.now turn.now loops.now)
         (map formula_of formulas.now)) }
 {
     match formulas {
         [] => Ok(false),
         [formula, rest @ ..] => {
-            if misses_loop(alloc, stored, name, turn, loops, formula)? {
+            if misses_loop(alloc, stored, own, name, turn, loops, formula)? {
                 return Ok(true);
             }
-            one_misses(alloc, stored, name, turn, loops, rest)
+            one_misses(alloc, stored, own, name, turn, loops, rest)
         }
     }
 }
@@ -219,7 +228,15 @@ fn some_misses(
 {
     match &host.formulas {
         None => Ok(false),
-        Some(formulas) => one_misses(alloc, stored, name, turn, &host.placed.loops, formulas),
+        Some(formulas) => one_misses(
+            alloc,
+            stored,
+            &host.subject.name,
+            name,
+            turn,
+            &host.placed.loops,
+            formulas,
+        ),
     }
 }
 
