@@ -38,7 +38,11 @@ pub(crate) fn code_at(codes: &[LineCode], buffer: u64, definition: u64) -> Optio
     }
 }
 
-/// Notes the code of a line, where there is none yet of its buffer and definition.
+/// How many codes of a group are noted at most: they are looked for one after another, at each store too. Lines without a code are
+/// evaluated by their expressions.
+const MOST_CODES: usize = 64;
+
+/// Notes the code of a line, where there is none yet of its buffer and definition, and there are not too many.
 fn note_line(
     alloc: Global,
     buffer: u64,
@@ -47,7 +51,7 @@ fn note_line(
     value: &Expr,
     codes: &mut Vec<LineCode>,
 ) -> Result<(), AllocError> {
-    if code_at(codes, buffer, definition).is_some() {
+    if codes.len() >= MOST_CODES || code_at(codes, buffer, definition).is_some() {
         return Ok(());
     }
     let code = code_of(alloc, coordinates, value)?;
