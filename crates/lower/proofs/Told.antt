@@ -5,11 +5,12 @@ use Rattle.std.proofs.lemmas.Result.{IfOk-weaker}
 use Rattle.meaning.specs.Algorithm.{Algorithm}
 use Rattle.meaning.specs.Names.{same_name}
 use Rattle.sched.specs.Schedule.{Schedule}
-use Rattle.sched.specs.Legal.{IsFault, IsFollowed, IsLegal}
+use Rattle.sched.specs.Legal.{IsFault, IsFollowed, IsLegal, IsUnfollowed}
 use Rattle.sched.specs.declared.error.Rule.{Rule}
 use Rattle.sched.specs.Placing.{SubjectText}
 use Rattle.sched.specs.RegionRules.{region_number}
 use Rattle.sched.specs.Rules.{number_of}
+use Rattle.sched.specs.declared.error.SchedError.{SchedError}
 use Rattle.sched.specs.declared.error.SchedError.TheVariants as refusal
 use Rattle.lower.specs.declared.error.LowerError.{LowerError}
 use Rattle.lower.specs.declared.error.LowerError.TheVariants as error
@@ -23,9 +24,9 @@ use Rattle.lower.specs.declared.parties.Party.{Party}
 use Rattle.lower.specs.Broken.{Inside, leaves_others, first_from, first_over, asked_count, unless_behind, first_told}
 use Rattle.lower.specs.Faults.{are_whole, no_totals, region_fault}
 use Rattle.lower.specs.Uses.{AreUsedInside, FindsUse, TellsUse}
-use Rattle.lower.specs.Groups.{AreGroupsMade, IsPlanOf, IsKeptPlan, inside_at, rooted}
+use Rattle.lower.specs.Groups.{rounds, AreGroupsMade, IsPlanOf, IsKeptPlan, inside_at, rooted}
 use Rattle.lower.specs.Planned.{TellsOf, unplanned, unplanned_over}
-use Rattle.lower.specs.Refused.{Answers, AnswersBy, AreSmall, IsFirstOver, IsNoneOver, AreRegionsKept, AreUsesInside, IsRefused, IsUnplanned, subjects_of}
+use Rattle.lower.specs.Refused.{Answers, AnswersBy, AreSmall, IsFirstOver, IsNoneFrom, IsNoneOver, AreRegionsKept, AreUsesInside, IsRefused, IsUnplanned, subjects_of}
 use Rattle.lower.proofs.Sizes.{none_is_large}
 use Rattle.lower.proofs.Breaking.{whole_told, none_is_over}
 use Rattle.lower.proofs.First.{first_of, none_of}
@@ -124,6 +125,10 @@ is_followed : (a : Algorithm) (s : Schedule) (o : Option (Rule × List ℕ)) →
 is_followed a s None h = h.followed
 is_followed a s (Some e) h = h.followed
 
+-- a directive breaks a rule
+pub unfollowed_told : (a : Algorithm) (s : Schedule) (e : SchedError) → IsUnfollowed a s e → IsRefused a s (error.Schedule e)
+unfollowed_told a s e h = inl h
+
 -- the clauses of the answer
 pub record Told (a : Algorithm) (s : Schedule) (r : Result Lowered LowerError) : Type 0 where
   pub legal : IfOk r (λ l. IsLegal a s)
@@ -139,7 +144,10 @@ err_told a s e is = record { legal = tt; small = tt; regions = tt; uses = tt; gr
 answers_told : (a : Algorithm) (s : Schedule) (o : Option (Rule × List ℕ)) → IsFault a s o → (r : Result Lowered LowerError) → Answers a (subjects_of a s) (stored_functions a s) o r → Told a s r
 answers_told a s o h (Ok l) is = record { legal = subst (IsFault a s) is.0 h; small = is.1; regions = is.2; uses = is.4; groups = is.3; refused = tt }
 answers_told a s o h (Err error.Memory) is = err_told a s error.Memory tt
-answers_told a s o h (Err (error.Schedule (refusal.Broken r x))) is = err_told a s (error.Schedule (refusal.Broken r x)) (inr (subst (IsFault a s) is.0 h))
+answers_told a s o h (Err (error.Schedule (refusal.Broken r x))) is = err_told a s (error.Schedule (refusal.Broken r x))
+    (inr (subst (IsFault a s) is.0 h, subst (λ (q : Option (Rule × List ℕ)). IsNoneFrom a (subjects_of a s) gs (rounds gs) (laid_functions a gs) q) is.0 is.1)) where
+      gs : List StoredText
+      gs = stored_functions a s
 answers_told a s o h (Err (error.Schedule refusal.Memory)) is = absurd is.0
 answers_told a s o h (Err (error.Schedule (refusal.BadToken span))) is = absurd is.0
 answers_told a s o h (Err (error.Schedule (refusal.BadForm span))) is = absurd is.0

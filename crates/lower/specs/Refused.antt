@@ -79,6 +79,12 @@ pub record IsFirstIn (a : Algorithm) (s : Schedule) (r : RegionRule) (x : List �
   pub is : sched.IsFault a s fault
   pub first : IsFirstFrom a (subjects_of a s) (stored_functions a s) (rounds (stored_functions a s)) (laid_functions a (stored_functions a s)) fault r x
 
+-- no directive breaks a rule; and it is the first rule of those that ask for no region, of the first function that breaks one, and no rule by regions is told before it
+abbrev pub IsBehind : Algorithm → Schedule → SchedError → Type 0
+IsBehind a s (refusal.Broken r x) =
+    sched.IsBrokenBehind a s r x × IsNoneFrom a (subjects_of a s) (stored_functions a s) (rounds (stored_functions a s)) (laid_functions a (stored_functions a s)) (Some (r, x))
+IsBehind a s e = ⊥
+
 abbrev pub AreRegionsKept : Algorithm → Schedule → Type 0
 AreRegionsKept a s = KeepsRegions a (stored_functions a s)
 
@@ -86,15 +92,15 @@ AreRegionsKept a s = KeepsRegions a (stored_functions a s)
 abbrev pub AreUsesInside : Algorithm → Schedule → Type 0
 AreUsesInside a s = AreUsedInside (stored_functions a s)
 
--- A directive breaks one of L1 to L5, or a function a rule that asks for no region. L6 of a use is told only of the first stored function that
--- is used outside of the loop at which it is computed, or in a definition that lacks it, and another rule that asks for a region only where neither its
--- function nor one before it is. L11 for a definition is told only of the first stored function
--- of which one passes the limits. The other rules that ask for a region are told only where no directive breaks one of L1 to L5 and, but for L6, no
--- definition of the function or of one before it passes the limits; and only the first that is broken, of the first function that breaks one: over the regions that all turns
--- ask for, and, of a function that is computed inside loops, over what is needed of it wherever it is computed.
+-- A directive breaks one of L1 to L5, or a function a rule that asks for no region, and none before it, nor it itself, one by its region that comes first. L6 of a
+-- use is told only of the first stored function that is used outside of the loop at which it is computed, or in a definition that lacks it, and another rule that
+-- asks for a region only where neither its function nor one before it is. L11 for a definition is told only of the first stored function of which one passes the
+-- limits. The other rules that ask for a region are told only where no directive breaks one of L1 to L5 and, but for L6, no definition of the function or of one
+-- before it passes the limits; and only the first that is broken, of the first function that breaks one: over the regions that all turns ask for, and, of a function
+-- that is computed inside loops, over what is needed of it wherever it is computed.
 abbrev pub IsRefused : Algorithm → Schedule → LowerError → Type 0
 IsRefused a s error.Memory = Unit {0}
-IsRefused a s (error.Schedule e) = sched.IsRefused a s e
+IsRefused a s (error.Schedule e) = sched.IsUnfollowed a s e ⊎ IsBehind a s e
 IsRefused a s (error.Broken r x) = IsFollowed a s × IsToldOf (stored_functions a s) r x × IsFirst a (stored_functions a s) r x × IsFirstIn a s r x
 
 -- it is the first rule that asks for no region and is broken

@@ -481,6 +481,7 @@ fn plan_placed(alloc: Global, algo: &Algo, placement: &Placement) -> Result<Lowe
 /// `Schedule` with the first directive that breaks one of L1 to L5, as `sched::followed` tells it. Then, function by function
 /// in the order of declaration, the lowest rule that the function breaks: `Schedule` with L4, L5, L8 or L10, `Broken` with L8
 /// over fewer points than the factor, L9 of a fold, L11 or L12. `Memory`.
+#[tactic(auto, using(crate::proofs::Told::unfollowed_told))]
 pub fn lower(alloc: Global, algo: &Algo, sched: &Sched) -> Result<Lowered, LowerError>
     ensures legal { IfOk result (λ _. IsLegal (algorithm_of algo.now) (schedule_of sched.now)) }
 

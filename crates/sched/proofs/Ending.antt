@@ -14,7 +14,7 @@ use Rattle.sched.specs.Schedule.{Schedule}
 use Rattle.sched.specs.Placing.{SubjectText, PlacedText, has_vectorized_outside, has_parallel_inside, has_updates, is_shifted, start, subject_of, placed_of, breaks_home, breaks_storage, breaks_fold, end_fault, or_later, fault_among, first_fault}
 use Rattle.sched.specs.Subjects.{subject_said, places, Follows}
 use Rattle.sched.specs.Rules.{EndBreaks, IsLowest, number_of, IsVectorizedOutside, IsParallelInside, IsShiftedUpdate, IsInlineUpdate, IsBadHome, IsBadStorage, IsBadFold}
-use Rattle.sched.specs.Legal.{said, loops_after, IsBrokenBehind, IsFault, IsLegal, IsRefused, loops_of}
+use Rattle.sched.specs.Legal.{said, loops_after, IsBrokenBehind, IsFault, IsLegal, IsRefused, IsUnfollowed, loops_of}
 use Rattle.sched.proofs.Deciding.{vectorized_outside_decides, inside_decides, bad_home_decides, bad_storage_decides, shifted_update_decides, bad_fold_decides, inline_update_decides}
 use Rattle.sched.proofs.Telling.{Told, text_told, followed, broken_now}
 
@@ -132,12 +132,14 @@ module _ (a : Algorithm) (s : Schedule) where
       (subst (IsFault a s) (sym same) (behind (refl, told.1) (first_fault subjects (loops_of a s)) (faults (loops_after (said s)))), told.0)
 
   pub followed_told : AreDistinct (a.input ∷ map (λ f. f.name) a.functions) → (r : Result Placement SchedError) → Follows a s r →
-      IfOk r (λ p. IsFault a s p.fault) × IfOk r (λ p. map placed_of p.functions.items ≡ loops_of a s) × IfOk r (λ p. map subject_of p.subjects.items ≡ map (subject_said a s) a.functions) × IfErr r (IsRefused a s)
+      IfOk r (λ p. IsFault a s p.fault) × IfOk r (λ p. map placed_of p.functions.items ≡ loops_of a s) × IfOk r (λ p. map subject_of p.subjects.items ≡ map (subject_said a s) a.functions) × IfErr r (IsRefused a s) × IfErr r (IsUnfollowed a s)
   followed_told distinct (Ok p) made =
       let told = fault_told (map placed_of p.functions.items) p.fault (subst (Told a s [] (said s)) made.0 (places_told distinct)) made.1 in
-      (told.0, told.1, made.2, tt)
-  followed_told distinct (Err error.Memory) made = (tt, tt, tt, tt)
-  followed_told distinct (Err (error.Broken r x)) made = (tt, tt, tt, inl (broken_now a s r x (subst (Told a s [] (said s)) made (places_told distinct))))
+      (told.0, told.1, made.2, tt, tt)
+  followed_told distinct (Err error.Memory) made = (tt, tt, tt, tt, tt)
+  followed_told distinct (Err (error.Broken r x)) made =
+      let now = broken_now a s r x (subst (Told a s [] (said s)) made (places_told distinct)) in
+      (tt, tt, tt, inl now, now)
   followed_told distinct (Err (error.BadToken span)) made = absurd made
   followed_told distinct (Err (error.BadForm span)) made = absurd made
   followed_told distinct (Err (error.TooLarge span)) made = absurd made

@@ -95,6 +95,15 @@ IsFault a s (Some e) = IsBrokenBehind a s e.0 e.1
 abbrev pub loops_of : Algorithm → Schedule → List PlacedText
 loops_of a s = map (loops_after (said s)) a.functions
 
+-- of rules only one that a directive breaks
+abbrev pub IsUnfollowed : Algorithm → Schedule → SchedError → Type 0
+IsUnfollowed a s (error.Broken r x) = IsBrokenNow a s r x
+IsUnfollowed a s error.UnfitNames = has_names a ≡ false
+IsUnfollowed a s error.Memory = Unit {0}
+IsUnfollowed a s (error.BadToken span) = ⊥
+IsUnfollowed a s (error.BadForm span) = ⊥
+IsUnfollowed a s (error.TooLarge span) = ⊥
+
 abbrev pub IsRefused : Algorithm → Schedule → SchedError → Type 0
 IsRefused a s (error.Broken r x) = IsBrokenNow a s r x ⊎ IsBrokenBehind a s r x
 IsRefused a s error.UnfitNames = has_names a ≡ false

@@ -7,7 +7,7 @@ ghost use Rattle.algo.specs.Parts.{change_of, function_of, range_of};
 ghost use Rattle.algo.specs.View.{algorithm_of};
 ghost use Rattle.sched.specs.View.{directive_of, schedule_of};
 ghost use Rattle.sched.specs.Placing.{subject_of, placed_of};
-ghost use Rattle.sched.specs.Legal.{IsFault, IsLegal, IsRefused, loops_of};
+ghost use Rattle.sched.specs.Legal.{IsFault, IsLegal, IsRefused, IsUnfollowed, loops_of};
 ghost use Rattle.sched.specs.Subjects as spec;
 
 use crate::error::{Rule, SchedError};
@@ -298,6 +298,7 @@ pub fn followed(alloc: Global, algo: &Algo, sched: &Sched) -> Result<Placement, 
     ensures fault { IfOk result (λ p. IsFault (algorithm_of algo.now) (schedule_of sched.now) p.fault) }
     ensures subjects { IfOk result (λ p. map subject_of p.subjects.items ≡ map (spec.subject_said (algorithm_of algo.now) (schedule_of sched.now)) (algorithm_of algo.now).functions) }
     ensures loops { IfOk result (λ p. map placed_of p.functions.items ≡ loops_of (algorithm_of algo.now) (schedule_of sched.now)) }
+    ensures unfollowed { IfErr result (IsUnfollowed (algorithm_of algo.now) (schedule_of sched.now)) }
     ensures refused { IfErr result (IsRefused (algorithm_of algo.now) (schedule_of sched.now)) }
 {
     if !has_names(algo) {
