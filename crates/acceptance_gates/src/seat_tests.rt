@@ -13,6 +13,7 @@ use algo::Inputs;
 use board::{Board, BoardSeat, Run};
 use checked_plan::Checked;
 use checked_plan::output::PlanCells;
+use crew::opening::laws::own_is_of_work;
 use crew::opening::open;
 use crew::{Desk, Pieces, Unwatched, try_piece, work};
 use std::alloc::Global;
@@ -134,6 +135,40 @@ fn comes_to_know<J: Run>(board: &Board<J>, seat: &mut BoardSeat, piece: u32) -> 
 
 // The first piece, and what a second seat sees of its first cell once the first seat has finished it. Before, it is not known to be
 // finished.
+fn seen_by<J: Run>(
+    alloc: Global,
+    board: &Board<J>,
+    first: &mut BoardSeat,
+    second: &mut BoardSeat,
+    checked: &Checked<'_>,
+    pieces: &Pieces<'_>,
+    desk: &mut Desk<'_>,
+) -> Option<(u32, u32)>
+    requires layout { J.layout ≡ layout_of checked.now }
+    requires pieces { ArePieces J.layout J.values pieces.now }
+    requires desk { IsDeskFor J.layout pieces.now desk.old }
+    requires first { first.old.board ≡ board.now }
+    requires second { second.old.board ≡ board.now }
+{
+    own_is_of_work();
+    let ticket = board.draw(first)?;
+    let piece = ticket.piece();
+    let before = board.ask(second, piece);
+    if let Err(back) = try_piece(alloc, board, first, ticket, pieces, desk) {
+        board.abandon(first, back);
+        return None;
+    }
+    if before || !comes_to_know(board, second, piece) {
+        return None;
+    }
+    let cells = checked.own(piece as usize);
+    if cells.is_empty() {
+        return None;
+    }
+    Some((piece, board.look(second, cells.cell(0))))
+}
+
+// The same with a second seat that is split off the first.
 fn seen<J: Run>(
     alloc: Global,
     board: Board<J>,
@@ -149,21 +184,15 @@ fn seen<J: Run>(
     requires idle { IsIdle first.view }
 {
     let mut second = board.seat(&mut first).ok()?;
-    let ticket = board.draw(&mut first)?;
-    let piece = ticket.piece();
-    let before = board.ask(&mut second, piece);
-    if let Err(back) = try_piece(alloc, &board, &mut first, ticket, pieces, desk) {
-        board.abandon(&mut first, back);
-        return None;
-    }
-    if before || !comes_to_know(&board, &mut second, piece) {
-        return None;
-    }
-    let cells = checked.own(piece as usize);
-    if cells.is_empty() {
-        return None;
-    }
-    Some((piece, board.look(&mut second, cells.cell(0))))
+    seen_by(
+        alloc,
+        &board,
+        &mut first,
+        &mut second,
+        checked,
+        pieces,
+        desk,
+    )
 }
 
 // The cells of a checked plan.
@@ -216,7 +245,31 @@ pub(crate) fn board_of<'a, J: Run, R: Abort>(
     }
 }
 
-// A trial on a board for a checked plan and an input.
+// A trial on a board by its first seat.
+fn tried_at<J: Run, R: Wait>(
+    rt: &R,
+    alloc: Global,
+    board: Board<J>,
+    seat: BoardSeat,
+    checked: &Checked<'_>,
+    pieces: &Pieces<'_>,
+    desk: &mut Desk<'_>,
+    trial: Trial,
+) -> Option<(u32, u32)>
+    requires layout { J.layout ≡ layout_of checked.now }
+    requires pieces { ArePieces J.layout J.values pieces.now }
+    requires desk { IsDeskFor J.layout pieces.now desk.old }
+    requires seat { seat.board ≡ board }
+    requires idle { IsIdle seat.view }
+{
+    match trial {
+        Trial::GivesUp(piece) => given_up(alloc, board, seat, pieces, desk, piece),
+        Trial::LetsGo => after_the_second(rt, alloc, board, seat, pieces, desk),
+        Trial::Looks => seen(alloc, board, seat, checked, pieces, desk),
+    }
+}
+
+// The same on a board for a checked plan and an input.
 fn tried_on_a_board<J: Run, R: Wait + Abort>(
     rt: &R,
     alloc: Global,
@@ -232,11 +285,7 @@ fn tried_on_a_board<J: Run, R: Wait + Abort>(
     let pieces = Pieces::of::<J>(checked, inputs);
     let mut desk = desk_of::<J, R>(rt, alloc, &pieces, &cells);
     let (board, seat) = board_of::<J, R>(rt, alloc, checked, inputs);
-    match trial {
-        Trial::GivesUp(piece) => given_up(alloc, board, seat, &pieces, &mut desk, piece),
-        Trial::LetsGo => after_the_second(rt, alloc, board, seat, &pieces, &mut desk),
-        Trial::Looks => seen(alloc, board, seat, checked, &pieces, &mut desk),
-    }
+    tried_at(rt, alloc, board, seat, checked, &pieces, &mut desk, trial)
 }
 
 // The same by the texts of an example.
