@@ -1,7 +1,7 @@
 -- What is accepted may be run.
-use Rattle.std.proofs.Common.{◌≡◌, ℕ, zero, suc, ◌+◌, ◌<◌, List, [], ◌∷◌, map, Bool, true, false, Option, Some, None, refl, sym, ap, ◌∙◌, subst, arith}
-use Rattle.std.specs.Prelude.{◌||◌, ℤ, pos, slice_get}
-use Rattle.std.specs.List.{AllByRecursion, list_any}
+use Rattle.std.proofs.Common.{◌≡◌, ℕ, zero, suc, ◌+◌, ◌<◌, List, [], ◌∷◌, Bool, true, false, Option, Some, None, refl, sym, ap, ◌∙◌, subst, arith}
+use Rattle.std.specs.Prelude.{ℤ, pos, slice_get}
+use Rattle.std.specs.List.{AllByRecursion}
 use Rattle.std.proofs.lemmas.List.Elements.{recursion_from_All, All-nil}
 use Rattle.meaning.specs.Image.Raster.{is_within}
 use Rattle.numeric.specs.Wrap.{IsOf}
@@ -13,31 +13,25 @@ use Rattle.plan.specs.Plan.{Group, Plan}
 use Rattle.plan.specs.Lines.{body_line}
 use Rattle.plan.specs.Certificate.Certificate.{Certificate}
 use Rattle.plan.specs.Certificate.Cells.{Cell, Piece, cell, first_piece, group_pieces, own_points, piece, pieces}
-use Rattle.plan.specs.Semantics.Actions.{actions}
-use Rattle.plan.specs.Semantics.Setting.{setting_of}
 use Rattle.soundness.specs.Given.{outline_of, given_of}
-use Rattle.soundness.specs.Stored.{AreDefinitions}
 use Rattle.soundness.proofs.Refines.{name_refl, name_true}
 use Rattle.headline.specs.Fetched.{fetched_cells}
 use Rattle.headline.specs.Numbers.{CellsAreNumbered, PiecesAreNumbered, is_cell}
 use Rattle.headline.specs.Parts.{CellsAreApart, FunctionsAreDistinct, PartsAreTheWork, symbols_of_piece}
 use Rattle.headline.specs.Sound.{IsOnInput}
 use Rattle.headline.specs.Work.{cells_fetched, group_fetched}
-use Rattle.meaning.specs.Inlining.PutIn.{put_in}
 use Rattle.soundness.specs.Outline.Flaws.{first_of}
 use Rattle.rules.specs.Bounding.Laws.{RulesAreSuited}
 use Rattle.rules.specs.Bounding.Rules.{rules_of}
-use Rattle.validation.specs.Stored.Definitions.{stored_in as stored_by_lines}
 use Rattle.validation.specs.Groups.Laws.{GroupsArePublished, BodiesAreCovered, StoresAreDefinitions}
 use Rattle.validation.specs.Certificate.Certificate.{flaws_of_certificate}
 use Rattle.validation.specs.Certificate.Clear.{IsClear}
 use Rattle.shares.specs.Layout.{PieceFetchesCells}
-use Rattle.audit.specs.Verdict.Shown.Wide.{stored_in, HasLines, Accepts, AreSuited, AcceptedIsRight as RulesAreRight, AcceptedIsSound as RulesAreSound, AcceptedBodiesAreSound as BodiesAreSound}
+use Rattle.audit.specs.Verdict.Shown.Wide.{HasLines, Accepts, AreSuited, AcceptedIsRight as RulesAreRight, AcceptedIsSound as RulesAreSound, AcceptedBodiesAreSound as BodiesAreSound}
 use Rattle.audit.specs.Verdict.Bounded.Near.{NearIsNarrow}
 use Rattle.audit.specs.Verdict.Clear.{GroupsAreFree, GroupsAreNear, RegionsAreSmall, PlansAreSmall, GroupsAreApart}
 use Rattle.audit.specs.Verdict.Bounded.Near.{GroupIsNear}
 use Rattle.audit.specs.Verdict.Indices.{GivenAreIndices, SetAreIndices}
-use Rattle.audit.proofs.OfVerdict.Free.{same_allots}
 use Rattle.audit.proofs.OfVerdict.OfIndices.Owned.{own_given}
 use Rattle.audit.proofs.OfVerdict.OfIndices.Points.{cell_is}
 use Rattle.checked_plan.specs.Ready.Ready.{place_of_group, Ready}
@@ -66,11 +60,6 @@ pub record Laws : Type 0 where
   pub places : PiecesAreNumbered
   pub parts : PartsAreTheWork
   pub told : CellsAreApart
-
--- ---- the functions that a plan stores, by either definition
-
-same_stored : (a : Algorithm) (p : Plan) → stored_by_lines a p ≡ stored_in a p
-same_stored a p = λ j. map (λ f. list_any (λ g. same_name g.function f.name || same_allots f.name g.body j) p.groups) a.functions
 
 -- ---- the first group of a function
 
@@ -111,8 +100,7 @@ module _ (laws : Laws) (a : Algorithm) (p : Plan) (c : Certificate) (w : IsAlgor
   lines n g e = record {
     published = laws.published a p c accepted.groups clear.own n g e;
     covered = laws.covered a p c accepted.groups n g e;
-    definitions = λ samples s. subst (λ (stored : List Bool). AreDefinitions a (put_in a stored) (given_of a samples (outline_of p c n g)) (actions (setting_of p c n g) g.body s))
-        (same_stored a p) (laws.definitions a p c accepted.groups n g e samples s);
+    definitions = laws.definitions a p c accepted.groups n g e;
     free = laws.free a p c accepted.groups n g e;
   }
 

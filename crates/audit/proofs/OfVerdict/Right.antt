@@ -35,7 +35,8 @@ use Rattle.headline.specs.Work.{group_fetched}
 use Rattle.headline.specs.Headline.{HasCell, Headline}
 use Rattle.headline.proofs.Named.{named_same}
 use Rattle.soundness.specs.Binders.View.{grid_binders}
-use Rattle.audit.specs.Verdict.Shown.Wide.{stored_in, HasOutput, HasLines, Accepts, AreSuited, AcceptedBodiesAreSound, AcceptedIsRight, AcceptedIsSound}
+use Rattle.validation.specs.Stored.Definitions.{stored_in}
+use Rattle.audit.specs.Verdict.Shown.Wide.{HasOutput, HasLines, Accepts, AreSuited, AcceptedBodiesAreSound, AcceptedIsRight, AcceptedIsSound}
 use Rattle.audit.proofs.OfVerdict.ShownFree.{free_actions, definitions_same}
 use Rattle.audit.proofs.OfVerdict.Grid.{grid_respected}
 

@@ -19,7 +19,7 @@ use Rattle.soundness.specs.Stored.{IsNamed, IsLeftSide, IsDefinition, AreDefinit
 use Rattle.meaning.specs.Inlining.PutIn.{put_in, put_in_where_possible}
 use Rattle.meaning.specs.Inlining.Laws.{TakesNoUpdates, KeepsItsSide, KeepsItsSides, PutInWherePossible, UpdatesKeepTheirSides}
 use Rattle.headline.proofs.Named.{named_same}
-use Rattle.audit.specs.Verdict.Shown.Wide.{DefinitionIsFree, IsFree, IsFreeBlock}
+use Rattle.validation.specs.Groups.Free.{DefinitionIsFree, IsFree, IsFreeBlock}
 
 -- ---- from statements to actions
 

@@ -34,7 +34,8 @@ use Rattle.rules.specs.Widths.Widths.{wide_lines}
 use Rattle.audit.specs.Verdict.Shown.Plain.{IsPlain, IsPlainPlan}
 use Rattle.plan.specs.Lines.{body_line}
 use Rattle.soundness.specs.Binders.View.{grid_binders}
-use Rattle.audit.specs.Verdict.Shown.Wide.{stored_in, HasHead, HasLines, HasOutput}
+use Rattle.validation.specs.Stored.Definitions.{stored_in}
+use Rattle.audit.specs.Verdict.Shown.Wide.{HasHead, HasLines, HasOutput}
 use Rattle.audit.specs.Verdict.Shown.Worked.{of_input, of_calls, two, f_group, out_group, here, both, of_cells, two_plan, two_certificate, two_rules, TwoIsAccepted}
 use Rattle.tails.specs.Nests.{PlainNestsAreTaken}
 use Rattle.audit.proofs.OfVerdict.ShownPlain.{plain_is_accepted}

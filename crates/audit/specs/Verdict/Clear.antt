@@ -12,7 +12,8 @@ use Rattle.headline.specs.Numbers.{GroupsHaveEnds}
 use Rattle.headline.specs.Parts.{FunctionsAreDistinct}
 use Rattle.rules.specs.Widths.Widths.{wide_lines}
 use Rattle.soundness.specs.Binders.View.{grid_binders}
-use Rattle.audit.specs.Verdict.Shown.Wide.{IsFree, stored_in}
+use Rattle.validation.specs.Stored.Definitions.{stored_in}
+use Rattle.validation.specs.Groups.Free.{IsFree}
 use Rattle.shares.specs.Before.{IsDrawn}
 use Rattle.shares.specs.Early.{AreReadBefore}
 use Rattle.soundness.specs.declared.outline.refusals.code.Flaw.{Flaw as FlawHeld}

@@ -1,20 +1,19 @@
 -- Plans of several groups that the checker says yes to, and what a yes promises.
-use Rattle.std.specs.Prelude.{◌≡◌, ℕ, zero, suc, ◌<◌, ◌||◌, Bool, true, false, List, [], map, filter, not, All, Option, Some, None, MatchOption, ℤ, slice_get}
-use Rattle.std.specs.List.{AllByRecursion, list_any}
+use Rattle.std.specs.Prelude.{◌≡◌, ℕ, ◌<◌, Bool, true, List, [], filter, not, Some, ℤ, slice_get}
+use Rattle.std.specs.List.{AllByRecursion}
 use Rattle.meaning.specs.Image.Raster.{is_within}
-use Rattle.meaning.specs.Algorithm.{Function, Algorithm}
+use Rattle.meaning.specs.Algorithm.{Algorithm}
 use Rattle.meaning.specs.Conditions.{IsAlgorithm}
 use Rattle.meaning.specs.Functions.{AreSamples}
-use Rattle.meaning.specs.Names.{same_name}
-use Rattle.plan.specs.Plan.{Statement, Seq, For, Let, First, Guard, Alloc, Fetch, Store, Publish, Statements, Empty, Then, Group, Plan}
+use Rattle.plan.specs.Plan.{Group, Plan}
 use Rattle.plan.specs.Lines.{body_line}
 use Rattle.plan.specs.Symbols.{Symbols}
 use Rattle.plan.specs.Certificate.Certificate.{Certificate}
 use Rattle.plan.specs.Certificate.Cells.{Piece, cell, grid_point, grid_symbols, group_pieces, pieces}
-use Rattle.plan.specs.Semantics.Actions.{Setting, actions}
+use Rattle.plan.specs.Semantics.Actions.{actions}
 use Rattle.plan.specs.Semantics.Setting.{setting_of}
 use Rattle.soundness.specs.Claims.{IsSound as IsSoundBody}
-use Rattle.soundness.specs.Given.{function_named, outline_of, given_of}
+use Rattle.soundness.specs.Given.{outline_of, given_of}
 use Rattle.soundness.specs.Obligations.{Rules, Obligation, Suited, is_covered}
 use Rattle.soundness.specs.Right.{at_start}
 use Rattle.soundness.specs.Shown.{Nests, all_shown}
@@ -25,65 +24,11 @@ use Rattle.headline.specs.Numbers.{is_cell}
 use Rattle.headline.specs.Sound.{IsPublished}
 use Rattle.headline.specs.Theorem.{HasSoundCells}
 use Rattle.headline.specs.Work.{cells_fetched, target, work_of}
-use Rattle.meaning.specs.Inlining.Laws.{TakesNoUpdates}
 use Rattle.meaning.specs.Inlining.PutIn.{put_in}
 use Rattle.headline.specs.Head.{SameInput, SameOutput}
+use Rattle.validation.specs.Stored.Definitions.{stored_in}
+use Rattle.validation.specs.Groups.Free.{IsFree}
 use Rattle.headline.specs.Headline.{Headline}
-
--- ---- what is stored
-
-module _ (f : List ℕ) where
-  -- some line of the statement allocates a buffer of the function
-  abbrev mutual
-    pub allocates : Statement → Bool
-    allocates (Seq all) = block_allocates all
-    allocates (For i x kind body) = allocates body
-    allocates (Let i pick forms) = false
-    allocates (First i a b) = allocates a || allocates b
-    allocates (Guard low high body) = allocates body
-    allocates (Alloc b g places) = same_name g f
-    allocates (Fetch b g region) = false
-    allocates (Store b k at e) = false
-    allocates (Publish c) = false
-
-    pub block_allocates : Statements → Bool
-    block_allocates Empty = false
-    block_allocates (Then a rest) = allocates a || block_allocates rest
-
-  -- some group is the function's, or has a buffer of it
-  abbrev pub is_stored : Plan → Bool
-  is_stored p = list_any (λ g. same_name g.function f || allocates g.body) p.groups
-
--- of each function of the algorithm whether the plan stores it
-abbrev pub stored_in : Algorithm → Plan → List Bool
-stored_in a p = map (λ f. is_stored f.name p) a.functions
-
--- ---- what stored definitions call
-
--- what stands in a definition of the function comes to no function that has updates and is not stored: definition 0 is the
--- pure one
-abbrev pub DefinitionIsFree : Algorithm → List Bool → Option Function → ℕ → Type 0
-DefinitionIsFree a stored None k = Unit {0}
-DefinitionIsFree a stored (Some f) zero = TakesNoUpdates a stored f.value
-DefinitionIsFree a stored (Some f) (suc i) = MatchOption (slice_get f.changes i) (Unit {0}) (λ u. TakesNoUpdates a stored u.value × All (TakesNoUpdates a stored) u.at)
-
-module _ (a : Algorithm) (stored : List Bool) (setting : Setting) where
-  -- nor does what stands in a definition that some line of the statement stores
-  abbrev mutual
-    pub IsFree : Statement → Type 0
-    IsFree (Seq all) = IsFreeBlock all
-    IsFree (For i x kind body) = IsFree body
-    IsFree (Let i pick forms) = Unit {0}
-    IsFree (First i b c) = IsFree b × IsFree c
-    IsFree (Guard low high body) = IsFree body
-    IsFree (Alloc b f places) = Unit {0}
-    IsFree (Fetch b g region) = Unit {0}
-    IsFree (Store b k at e) = DefinitionIsFree a stored (function_named a.functions (setting.buffer_function b)) k
-    IsFree (Publish c) = Unit {0}
-
-    pub IsFreeBlock : Statements → Type 0
-    IsFreeBlock Empty = Unit {0}
-    IsFreeBlock (Then b rest) = IsFree b × IsFreeBlock rest
 
 -- ---- the yes
 
