@@ -78,14 +78,20 @@ fn take_bytes(samples: &mut Vec<u16>, left: usize, bytes: &[u8]) -> usize
     left - bytes.len()
 }
 
-/// Reads some samples of a raw raster in which each byte is one, where so many are still to come and have room: how many are left.
+// So many bytes of a raw raster are read together.
+const TOGETHER: usize = 4096;
+
+/// Reads some samples of a raw raster in which each byte is one, by way of a list of bytes, where so many are still to come and have
+/// room: how many are left.
 #[tactic(auto, using(crate::proofs::InParts::leads_on, crate::proofs::InParts::fewer_left))]
 fn read_part<S: Source>(
     source: &mut S,
     samples: &mut Vec<u16>,
     left: usize,
+    bytes: &mut [u8],
 ) -> Result<usize, PnmError>
     requires some { 0 < left }
+    requires bytes { 0 < length bytes.old }
     requires room { length samples.old.items + left ≤ vec_capacity samples.old }
     ensures leads { IfOk result (λ after. LeadsOn (S.remaining source.old) (S.remaining source.new) (in_raster left) samples.old.items (in_raster after) samples.new.items) }
     ensures fewer { IfOk result (λ after. after < left) }
@@ -95,8 +101,8 @@ fn read_part<S: Source>(
     ensures device { IsErrOf result PnmError.Device → S.has_failed source.new ≡ true }
     ensures same { S.identity source.new ≡ S.identity source.old }
 {
-    let mut bytes = [0u8; 4096];
-    let part = &mut bytes[..left.min(4096)];
+    let most = left.min(bytes.len());
+    let part = &mut bytes[..most];
     match source.fill(part) {
         Ok(0) => Err(PnmError::TooShort),
         Ok(count) => Ok(take_bytes(samples, left, &part[..count])),
@@ -120,8 +126,9 @@ fn read_reserved<S: Source>(
     ensures device { IsErrOf result PnmError.Device → S.has_failed source.new ≡ true }
     ensures same { S.identity source.new ≡ S.identity source.old }
 {
+    let mut bytes = [0u8; TOGETHER];
     while left > 0 {
-        match read_part(source, &mut samples, left) {
+        match read_part(source, &mut samples, left, &mut bytes) {
             Ok(after) => left = after,
             Err(e) => return Err(e),
         }

@@ -60,15 +60,19 @@ fn put_samples(ty: Ty, samples: &[u16], out: &mut [u8]) -> usize
     at
 }
 
-/// Sends samples, at most as many as are sent together.
-fn send_part<S: Sink>(sink: &mut S, ty: Ty, samples: &[u16]) -> Result<(), PnmError>
-    requires { length samples.now ≤ 2048 }
+/// Sends samples by way of a list that has room for their bytes.
+fn send_part<S: Sink>(
+    sink: &mut S,
+    ty: Ty,
+    samples: &[u16],
+    bytes: &mut [u8],
+) -> Result<(), PnmError>
+    requires { 2 * length samples.now ≤ length bytes.old }
     ensures bytes { Sends (S.contents sink.old) (S.contents sink.new) (flat_map (sample_bytes ty) samples.now) result }
     ensures failure { S.has_failed sink.new ≡ (S.has_failed sink.old || is_err result) }
     ensures same { S.identity sink.new ≡ S.identity sink.old }
 {
-    let mut bytes = [0u8; 4096];
-    let count = put_samples(ty, samples, &mut bytes);
+    let count = put_samples(ty, samples, bytes);
     sink.send(&bytes[..count])
 }
 
@@ -95,10 +99,11 @@ fn send_raster<S: Sink>(sink: &mut S, ty: Ty, samples: &[u16]) -> Result<(), Pnm
     ensures failure { S.has_failed sink.new ≡ (S.has_failed sink.old || is_err result) }
     ensures same { S.identity sink.new ≡ S.identity sink.old }
 {
+    let mut bytes = [0u8; 2 * TOGETHER];
     let mut rest = samples;
     while !rest.is_empty() {
         let (part, later) = rest.split_at(rest.len().min(TOGETHER));
-        send_part(sink, ty, part)?;
+        send_part(sink, ty, part, &mut bytes)?;
         rest = later;
     }
     Ok(())
