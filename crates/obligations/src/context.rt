@@ -11,4 +11,4 @@ pub use changes::{is_same, only_updates, only_writes};
 pub use facts::Facts;
 pub use judge::{Judge, Part, Said, are_within, have_room, said_by};
 pub use known::{Buffer, Known, Nest, follows, is_member, nests_within, onwards};
-pub use symbols::{around_has, forms_have, span_has};
+pub use symbols::around_has;

@@ -16,8 +16,8 @@ ghost use Rattle.obligations.specs.Asked.{first_unmet};
 use crate::asked::told;
 use crate::claiming::unmet_claims;
 use crate::context::{
-    Facts, Judge, Known, Nest, Part, are_within, around_has, forms_have, have_room, nests_within,
-    onwards, said_by, span_has,
+    Facts, Judge, Known, Nest, Part, are_within, around_has, have_room, nests_within, onwards,
+    said_by,
 };
 use crate::loads::is_usable;
 use crate::stores::unmet_store;
@@ -25,6 +25,7 @@ use crate::windows::{kept_of, without};
 use lin::{Lin, Span1, Sym};
 use plan::Stmt;
 use plan::certificate::Window;
+use soundness::binders::symbols::{forms_have, span_has};
 use soundness::binders::{Binder, NestTests};
 use soundness::outline::Outlined;
 use soundness::outline::refusals::{Flaw, K};

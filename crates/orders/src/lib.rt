@@ -28,6 +28,7 @@ pub use needs::first_unserved;
 pub use owners::{claim_cell, first_gap, owners_of};
 pub use state::State;
 use std::alloc::{AllocError, Global};
+pub use table::Table;
 
 /// Of sound work, every order of steps is clean and right, and one worker alone finishes it.
 pub fn every_order_is_right()

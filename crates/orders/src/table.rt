@@ -55,6 +55,13 @@ impl Table {
         self.cells.iter().filter(|cell| cell.is_some()).count()
     }
 
+    /// The value of each cell that is set.
+    pub fn cells(&self) -> &[Option<i64>]
+        ensures { result.now ≡ self.now.cells }
+    {
+        self.cells.as_slice()
+    }
+
     /// The value of a cell, if it is set.
     pub fn cell(&self, cell: u32) -> Option<i64>
         ensures { result ≡ cell_at self.now cell }

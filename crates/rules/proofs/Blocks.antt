@@ -1,6 +1,6 @@
 -- What the statements of a block change, from one of them on.
 use Rattle.std.proofs.Common.{◌≡◌, ℕ, suc, ◌+◌, ◌<◌, List, ◌∷◌, length, drop, get_or, sym, ap, ◌∙◌, add-one}
-use Rattle.std.specs.Prelude.{◌||◌, if◌then◌else◌, None}
+use Rattle.std.specs.Prelude.{if◌then◌else◌, None}
 use Rattle.std.proofs.Math.Seq.{drop-cons}
 use Rattle.plan.specs.declared.stmt.Stmt.{Stmt}
 use Rattle.plan.specs.Plan.{block}
@@ -11,10 +11,6 @@ use Rattle.soundness.specs.Nests.Nest.{nest_of, block_nest, is_let}
 
 pub rest_from : (xs : List Stmt) (i : ℕ) (x : Stmt) → i < length xs → x ≡ get_or xs i x → drop i xs ≡ x ∷ drop (i + 1) xs
 rest_from xs i x h is = drop-cons xs i x h ∙ ap (λ y. y ∷ drop (suc i) xs) (sym is) ∙ ap (λ n. x ∷ drop n xs) (sym (add-one i))
-
-pub changes_from : (xs : List Stmt) (i : ℕ) (x : Stmt) (b : ℕ) → i < length xs → x ≡ get_or xs i x →
-    block_changes (block (list_statements (drop i xs))) b ≡ (changes (statement_of x) b || block_changes (block (list_statements (drop (i + 1) xs))) b)
-changes_from xs i x b h is = ap (λ l. block_changes (block (list_statements l)) b) (rest_from xs i x h is)
 
 pub nest_from : (xs : List Stmt) (i : ℕ) (x : Stmt) (b : ℕ) → i < length xs → x ≡ get_or xs i x →
     block_nest (block (list_statements (drop i xs))) b

@@ -2,6 +2,7 @@
 
 mod binder;
 mod bounds;
+pub mod symbols;
 
 pub use binder::Binder;
 pub use bounds::{Bounds, NestTests};

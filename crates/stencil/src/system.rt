@@ -92,12 +92,16 @@ fn file_error(error: &Error) -> FileError {
     }
 }
 
-/// Room for the bytes that a file says it has, and one more, by which its end is found. Where there is no such room, or the file says
-/// nothing, its bytes are read all the same: the list then grows as they come.
+/// For how many bytes more than a file has there is room. By one of them its end is found. With the others the memory of an image
+/// file that was read serves for the picture's file too, where that has as many samples and a longer header.
+const SPARE: usize = 64;
+
+/// Room for the bytes that a file says it has, and some more. Where there is no such room, or the file says nothing, its bytes are
+/// read all the same: the list then grows as they come.
 fn make_room(bytes: &mut Vec<u8>, file: &fs::File) {
     if let Ok(found) = file.metadata() {
         if found.len() < MOST_AT_ONCE {
-            let _ = bytes.reserve(found.len() as usize + 1);
+            let _ = bytes.reserve(found.len() as usize + SPARE);
         }
     }
 }

@@ -7,8 +7,8 @@ ghost use Rattle.steps.specs.Seats.{AreTargets, HasSeenTargets, HoldsTargets, Is
 
 use crate::desk::Desk;
 use crate::runs::Runs;
-use crate::table::Table;
 use crate::worker::{Place, after_asks, after_looks};
+use orders::Table;
 use std::alloc::Global;
 
 /// An idle worker draws the next piece, or is done where none is left.

@@ -8,8 +8,8 @@ ghost use Rattle.steps.specs.Seats.{HaveRoom, IsIdle, IsMost, IsReached, shown};
 use crate::act::act;
 use crate::desk::Desk;
 use crate::runs::Runs;
-use crate::table::Table;
 use crate::worker::{Place, Worker};
+use orders::Table;
 use std::alloc::{AllocError, Global};
 
 /// A table, and workers in the first seats, each with room for the numbers that it holds.

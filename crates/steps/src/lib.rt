@@ -12,7 +12,6 @@ mod replaying;
 mod runs;
 mod samples;
 mod state;
-mod table;
 mod worker;
 
 pub use replaying::{picture, replay};

@@ -1,6 +1,6 @@
 -- What the statements of a block change, and the way down to one of them, from one of them on.
 use Rattle.std.proofs.Common.{◌≡◌, ℕ, zero, suc, ◌+◌, ◌-◌, ◌<◌, ◌≤◌, List, [], ◌∷◌, ◌++◌, length, take, drop, get_or, Bool, true, false, Option, None, refl, sym, ap, ◌∙◌, add-one, arith, length-drop}
-use Rattle.std.specs.Prelude.{◌||◌, if◌then◌else◌}
+use Rattle.std.specs.Prelude.{if◌then◌else◌}
 use Rattle.std.proofs.Math.Seq.{drop-cons}
 use Rattle.std.proofs.lemmas.List.{map-append, take_more}
 use Rattle.plan.specs.declared.stmt.Stmt.{Stmt}
@@ -13,10 +13,6 @@ use Rattle.tails.specs.View.{past_all}
 
 pub rest_from : (xs : List Stmt) (i : ℕ) (x : Stmt) → i < length xs → x ≡ get_or xs i x → drop i xs ≡ x ∷ drop (i + 1) xs
 rest_from xs i x h is = drop-cons xs i x h ∙ ap (λ y. y ∷ drop (suc i) xs) (sym is) ∙ ap (λ n. x ∷ drop n xs) (sym (add-one i))
-
-pub changes_from : (xs : List Stmt) (i : ℕ) (x : Stmt) (b : ℕ) → i < length xs → x ≡ get_or xs i x →
-    block_changes (block (list_statements (drop i xs))) b ≡ (changes (statement_of x) b || block_changes (block (list_statements (drop (i + 1) xs))) b)
-changes_from xs i x b h is = ap (λ l. block_changes (block (list_statements l)) b) (rest_from xs i x h is)
 
 past_append : (xs : List Statement) (a : Statement) (o : Option Spine) → past_all (xs ++ a ∷ []) o ≡ past_all xs (past a o)
 past_append [] a o = refl

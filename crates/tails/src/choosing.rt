@@ -10,9 +10,9 @@ ghost use Rattle.tails.specs.Ready.{ready_of, ready_with};
 ghost use Rattle.tails.specs.declared.pending.Pending.{Pending};
 
 use crate::pending::{Others, Pending, others_of};
-use crate::symbols::{form_has, forms_have};
 use crate::turns::Ready;
 use lin::{Lin, Span1, Sym};
+use soundness::binders::symbols::{form_has, forms_have};
 
 /// The factor of a symbol in the first of the forms that has it.
 fn factor_in(symbol: Sym, forms: &[Lin]) -> Option<i64>

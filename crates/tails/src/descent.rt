@@ -5,12 +5,12 @@ ghost use Rattle.std.specs.Option.{option_map};
 ghost use Rattle.plan.specs.Lists.{list_statements};
 ghost use Rattle.plan.specs.Plan.{block};
 ghost use Rattle.plan.specs.View.{statement_of};
-ghost use Rattle.soundness.specs.Claims.{changes, block_changes};
 ghost use Rattle.tails.specs.Steps.{beyond, block_spine, past, spine_of, Named, Tested, Turns};
 ghost use Rattle.tails.specs.View.{past_all, spine_held};
 
 use lin::{Forms, Lin, Span1, Sym};
 use plan::{Kind, Pick, Stmt};
+use soundness::outline::kept::{changes, some_change};
 use std::alloc::{AllocError, Global};
 
 /// A step down to a line: a loop, a name for the smallest or largest of some forms, or a guard.
@@ -40,45 +40,6 @@ pub enum Step<'a> {
 pub struct Spine<'a> {
     pub steps: Vec<Step<'a>>,
     pub line: &'a Stmt,
-}
-
-/// Whether some line of the statement changes the buffer.
-#[cycle(changing)]
-fn changes(stmt: &Stmt, buffer: u64) -> bool
-    ensures { result ≡ changes (statement_of stmt.now) buffer }
-{
-    match stmt {
-        Stmt::Seq(all) => some_change(all, buffer),
-        Stmt::For { body, .. } | Stmt::Guard { body, .. } => changes(body, buffer),
-        Stmt::First { first, later, .. } => changes(first, buffer) || changes(later, buffer),
-        Stmt::Alloc {
-            buffer: changed,
-            ..
-        }
-        | Stmt::Fetch {
-            buffer: changed,
-            ..
-        }
-        | Stmt::Store {
-            buffer: changed,
-            ..
-        } => *changed == buffer,
-        Stmt::Let { .. } | Stmt::Publish { .. } => false,
-    }
-}
-
-/// Whether some line of a block's statements changes the buffer.
-#[tactic(auto, using(crate::proofs::Blocks::changes_from))]
-#[cycle(changing)]
-fn some_change(all: &[Stmt], buffer: u64) -> bool
-    ensures { result ≡ block_changes (block (list_statements all.now)) buffer }
-{
-    for stmt in all {
-        if changes(stmt, buffer) {
-            return true;
-        }
-    }
-    false
 }
 
 /// The line with no step to it.

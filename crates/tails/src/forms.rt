@@ -6,8 +6,8 @@ ghost use Rattle.lin.specs.Search.{replaced};
 ghost use Rattle.tails.specs.Moves.{each_replaced, expanded, joined, naming, not_naming, only};
 ghost use Rattle.tails.specs.Held.{expanded_one, some_if};
 
-use crate::symbols::{form_has, forms_have};
 use lin::{Forms, Lin, LinError, Sym};
+use soundness::binders::symbols::{form_has, forms_have};
 use std::alloc::{AllocError, Global};
 
 /// A form and a multiple of another; None where that leaves the limits.

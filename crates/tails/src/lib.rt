@@ -21,7 +21,6 @@ pub mod shown;
 mod sides;
 pub mod spans;
 pub mod stored;
-pub mod symbols;
 mod turns;
 mod updates;
 pub mod windows;

@@ -7,9 +7,9 @@ ghost use Rattle.tails.specs.Held.{let_spans, others_of, pending_of};
 use crate::forms::expanded;
 use crate::pending::{Others, Pending};
 use crate::spans::{Spans, copied};
-use crate::symbols::{forms_have, spans_have};
 use lin::{Lin, Span1, Sym};
 use plan::Pick;
+use soundness::binders::symbols::{forms_have, spans_have};
 use std::alloc::{AllocError, Global};
 
 /// The first of the forms, if there is one.

@@ -11,10 +11,10 @@ use crate::descent::Step;
 use crate::forms::expanded;
 use crate::maps::each_exactly;
 use crate::spans::{Spans, copied};
-use crate::symbols::span_has;
 use crate::turns::have_same_terms;
 use lin::{Lin, Span1, Sym};
 use plan::Pick;
+use soundness::binders::symbols::span_has;
 use std::alloc::{AllocError, Global};
 
 /// Whether a number is less than so far above another.

@@ -10,9 +10,9 @@ ghost use Rattle.tails.specs.View.{step_of};
 ghost use Rattle.tails.specs.Held.{others_at, others_of, pending_of, pendings_of};
 
 use crate::descent::Step;
-use crate::symbols::{form_has, forms_have};
 use lin::{Lin, Sym};
 use plan::Pick;
+use soundness::binders::symbols::{form_has, forms_have};
 
 /// A step that is still to be taken.
 #[derive(Clone, Copy, Drop)]

@@ -9,8 +9,8 @@ ghost use Rattle.tails.specs.Held.{span_of};
 
 use crate::forms::{combined, only_with, push_replaced, push_without};
 use crate::spans::{Spans, before, copied};
-use crate::symbols::{form_has, span_has, spans_have};
 use lin::{Forms, Lin, Multiple, Span1, Sym};
+use soundness::binders::symbols::{form_has, span_has, spans_have};
 use std::alloc::{AllocError, Global};
 
 /// A loop that may be taken next.

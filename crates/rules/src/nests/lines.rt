@@ -5,12 +5,12 @@ ghost use Rattle.std.specs.Option.{option_map};
 ghost use Rattle.plan.specs.Lists.{list_statements};
 ghost use Rattle.plan.specs.Plan.{block};
 ghost use Rattle.plan.specs.View.{statement_of};
-ghost use Rattle.soundness.specs.Claims.{changes, block_changes};
 ghost use Rattle.soundness.specs.Nests.Nest.{alone, block_nest, inside, is_let, nest_of};
 ghost use Rattle.rules.specs.Nests.View.{nest_held};
 
 use lin::{Span1, Sym};
 use plan::Stmt;
+use soundness::outline::kept::{changes, some_change};
 use std::alloc::{AllocError, Global};
 
 /// A loop.
@@ -25,45 +25,6 @@ pub(crate) struct PlainLoop<'a> {
 pub(crate) struct Nested<'a> {
     pub loops: Vec<PlainLoop<'a>>,
     pub line: &'a Stmt,
-}
-
-/// Whether some line of the statement changes the buffer.
-#[cycle(changing)]
-fn changes(stmt: &Stmt, buffer: u64) -> bool
-    ensures { result ≡ changes (statement_of stmt.now) buffer }
-{
-    match stmt {
-        Stmt::Seq(all) => some_change(all, buffer),
-        Stmt::For { body, .. } | Stmt::Guard { body, .. } => changes(body, buffer),
-        Stmt::First { first, later, .. } => changes(first, buffer) || changes(later, buffer),
-        Stmt::Alloc {
-            buffer: changed,
-            ..
-        }
-        | Stmt::Fetch {
-            buffer: changed,
-            ..
-        }
-        | Stmt::Store {
-            buffer: changed,
-            ..
-        } => *changed == buffer,
-        Stmt::Let { .. } | Stmt::Publish { .. } => false,
-    }
-}
-
-/// Whether some line of a block's statements changes the buffer.
-#[tactic(auto, using(crate::proofs::Blocks::changes_from))]
-#[cycle(changing)]
-fn some_change(all: &[Stmt], buffer: u64) -> bool
-    ensures { result ≡ block_changes (block (list_statements all.now)) buffer }
-{
-    for stmt in all {
-        if changes(stmt, buffer) {
-            return true;
-        }
-    }
-    false
 }
 
 /// Whether the statement gives a symbol its number.

@@ -2,55 +2,16 @@
 
 ghost use Rattle.std.specs.Prelude.{◌≡◌, ◌==◌, ◌&&◌, not};
 ghost use Rattle.std.specs.List.{list_all, list_any};
-ghost use Rattle.soundness.specs.Obligations.{binder_has, form_has, places_have, span_has};
-ghost use Rattle.soundness.specs.Binders.View.{binder_of, binders_of};
+ghost use Rattle.soundness.specs.Obligations.{binder_has, places_have, span_has};
+ghost use Rattle.soundness.specs.Binders.View.{binders_of};
 ghost use Rattle.soundness.specs.Nests.Tests.{are_apart, is_new, is_outside, has_ends};
 ghost use Rattle.rules.specs.Nests.View.{loop_of, loops_of};
 
 use crate::nests::lines::PlainLoop;
-use lin::{Lin, Span1, Sym};
+use lin::{Span1, Sym};
 use plan::Places;
 use soundness::binders::Binder;
-
-/// Whether the symbol stands in the form.
-fn form_has(symbol: Sym, form: &Lin) -> bool
-    ensures { result ≡ form_has symbol form.now }
-{
-    form.terms().iter().any(|term| term.symbol == symbol)
-}
-
-/// Whether the symbol stands in one of the forms.
-fn forms_have(symbol: Sym, forms: &[Lin]) -> bool
-    ensures { result ≡ list_any (form_has symbol) forms.now }
-{
-    forms.iter().any(|form| form_has(symbol, form))
-}
-
-/// Whether the symbol stands in the span.
-fn span_has(symbol: Sym, span: &Span1) -> bool
-    ensures { result ≡ span_has symbol span.now }
-{
-    forms_have(symbol, span.lower.as_slice()) || forms_have(symbol, span.upper.as_slice())
-}
-
-/// Whether the symbol is bound by the binder or stands in it.
-fn binder_has(symbol: Sym, binder: &Binder<'_>) -> bool
-    ensures { result ≡ binder_has symbol (binder_of binder.now) }
-{
-    match binder {
-        Binder::Grid { symbol: bound, .. } => *bound == symbol,
-        Binder::Ranged {
-            symbol: bound,
-            span,
-        } => *bound == symbol || span_has(symbol, span),
-        Binder::Picked {
-            symbol: bound,
-            forms,
-            ..
-        } => *bound == symbol || forms_have(symbol, forms.as_slice()),
-        Binder::Passed { low, high } => form_has(symbol, low) || form_has(symbol, high),
-    }
-}
+use soundness::binders::symbols::{binder_has, places_have, span_has};
 
 /// Whether the symbol is bound by one of the binders or stands in one.
 #[tactic(auto, using(crate::proofs::Chains::any_of_last))]
@@ -60,16 +21,6 @@ fn binders_have(symbol: Sym, binders: &[Binder<'_>]) -> bool
     match binders {
         [] => false,
         [first, rest @ ..] => binder_has(symbol, first) || binders_have(symbol, rest),
-    }
-}
-
-/// Whether the symbol stands in the places.
-fn places_have(symbol: Sym, places: &Places) -> bool
-    ensures { result ≡ places_have symbol places.now }
-{
-    match places {
-        Places::From { origin, .. } => form_has(symbol, origin),
-        Places::Folded { .. } => false,
     }
 }
 

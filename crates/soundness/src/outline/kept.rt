@@ -17,7 +17,7 @@ use plan::certificate::Window;
 
 /// Whether some line of the statement changes the buffer.
 #[cycle(changing)]
-fn changes(stmt: &Stmt, buffer: u64) -> bool
+pub fn changes(stmt: &Stmt, buffer: u64) -> bool
     ensures { result ≡ changes (statement_of stmt.now) buffer }
 {
     match stmt {
@@ -43,7 +43,7 @@ fn changes(stmt: &Stmt, buffer: u64) -> bool
 /// Whether some line of a block's statements changes the buffer.
 #[tactic(auto, using(crate::proofs::OfOutline::Blocks::changes_from))]
 #[cycle(changing)]
-fn some_change(all: &[Stmt], buffer: u64) -> bool
+pub fn some_change(all: &[Stmt], buffer: u64) -> bool
     ensures { result ≡ block_changes (block (list_statements all.now)) buffer }
 {
     for stmt in all {

@@ -10,13 +10,13 @@ ghost use Rattle.tails.specs.Windows.Arms.{arm, arms_stay, is_along, is_axis, is
 ghost use Rattle.tails.specs.Windows.Spans.{is_window};
 
 use crate::stored::stored_by;
-use crate::symbols::span_has;
 use crate::windows::holding::hold;
 use crate::windows::inner::{are_outer, inside};
 use crate::windows::window::Window;
 use lin::{Span1, Sym};
 use plan::certificate::Claim;
 use plan::{Places, Stmt, certificate};
+use soundness::binders::symbols::span_has;
 use soundness::binders::{Binder, Bounds};
 use soundness::outline::Outlined;
 use std::alloc::{AllocError, Global};
