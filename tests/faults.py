@@ -300,9 +300,15 @@ def are_kept(case, files):
     return whole and "list" not in come and all(files.get(name) == data for name, data in case.files.items())
 
 
-def is_less(right, got):
-    """Whether the same refusal came, with less on standard error: a piece of it could not be told."""
-    return right.status and (got.status, got.out, got.files) == (right.status, right.out, right.files) and len(got.err) < len(right.err)
+def is_less(case, got):
+    """Whether the same refusal came, with less on standard error: a piece of it could not be told. Where it could not be found what
+    broke a rule of schedules, the code's page is told behind the refusal's line, which may be longer."""
+    right = case.right
+    if not right.status or (got.status, got.out, got.files) != (right.status, right.out, right.files):
+        return False
+    line = right.err.split(b"\n", 1)[0] + b"\n"
+    paged = case.words[0] == "compile" and "--explain" in case.words and got.err.startswith(line)
+    return len(got.err) < len(right.err) or paged
 
 
 def tells(case, got, line):
@@ -315,7 +321,7 @@ def classed(case, kind, got):
     kept = are_kept(case, got.files)
     if got == case.right:
         return "right"
-    if is_less(case.right, got):
+    if is_less(case, got):
         return "right, less told"
     begun = case.right.out.startswith(got.out)
     if kept and begun and got.status == 4 and tells(case, got, b"stencil: M0\n"):

@@ -216,9 +216,9 @@ def refusal(program, application, telling):
     with tempfile.TemporaryDirectory() as folder:
         text = f"{application.name}.alg"
         Path(folder, text).write_text(sized(application.text, *MAIN))
-        Path(folder, "a.sched").write_text(sized(application.refused, *MAIN))
-        told = run(program, folder, "compile", text, "a.sched", "a.plan", "--explain").stderr.decode(errors="replace")
-        seconds = min(measured([program, "compile", text, "a.sched", "a.plan"], folder)[0] for _ in range(3))
+        Path(folder, "refused.sched").write_text(sized(application.refused, *MAIN))
+        told = run(program, folder, "compile", text, "refused.sched", "refused.plan", "--explain").stderr.decode(errors="replace")
+        seconds = min(measured([program, "compile", text, "refused.sched", "refused.plan"], folder)[0] for _ in range(3))
     wanted = "stencil: " + application.refused.splitlines()[0].removeprefix("# Refused: ")
     line = told.split("\n", 1)[0]
     wrong = "" if line == wanted else f"{line or 'compiled'} where {wanted} is due"

@@ -74,13 +74,15 @@ def write(width):
 
 
 def look_at(name, said, took):
-    """What a terminal was told in so many seconds: lines whose counts don't fall by much, and at last the erased one."""
+    """What a terminal was told in so many seconds: lines whose counts never fall, and at last the erased one."""
     lines = LINE.findall(said)
     left = LINE.sub(b"", said).replace(ERASED, b"")
     tell(f"{name}: nothing else", left == b"", left)
     tell(f"{name}: some lines", len(lines) > 0, said)
     tell(f"{name}: at most four a second", len(lines) <= 4 * max(0.0, took - 2) + 1, (len(lines), took))
     tell(f"{name}: none is whole", all(0 < int(count) < HEIGHT for count in lines), lines)
+    counts = [int(count) for count in lines]
+    tell(f"{name}: no count is smaller than one before it", counts == sorted(counts), counts)
     tell(f"{name}: erased at last", said.endswith(ERASED), said[-40:])
 
 

@@ -5,6 +5,7 @@ pub mod OrderWords
 pub mod Turns
 pub mod Ways
 mod Between
+mod Coded
 mod Cropped
 mod Drawn
 mod Failures

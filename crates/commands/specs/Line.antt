@@ -1,6 +1,7 @@
 -- The command line: the words that it takes, and what they ask for.
-use Rattle.std.specs.Prelude.{◌≡◌, ◌≢◌, ◌⊎◌, ℕ, Bool, List, [], ◌∷◌, Option, None, Some, ◌^◌, true, false, codes, option_and_then, option_map, not, if◌then◌else◌}
+use Rattle.std.specs.Prelude.{◌≡◌, ◌≢◌, ◌⊎◌, ℕ, Bool, List, [], ◌∷◌, Option, None, Some, ◌^◌, true, false, codes, option_and_then, option_map, map, not, if◌then◌else◌}
 use Rattle.std.specs.Str.{bytes_eq}
+use Rattle.std.specs.Char.{to_ascii_uppercase}
 use Rattle.clap.specs.declared.builder.action.ArgAction.TheVariants.{SetTrue}
 use Rattle.clap.specs.declared.error.kind.ErrorKind.{ErrorKind}
 use Rattle.clap.specs.declared.error.kind.ErrorKind.TheVariants.{DisplayHelp, DisplayVersion, ValueValidation}
@@ -150,9 +151,9 @@ to_format _ _ = None
 abbrev pub format_in : List Row → Option Asked
 format_in rows = to_format (first_of (codes "ALG") rows) (first_of (codes "OUT") rows)
 
--- the code of a refusal
+-- the code of a refusal, whose letter may be a small one
 abbrev pub to_explain : Text → Option Asked
-to_explain code = if is_code code then Some (Explain code) else None
+to_explain code = if is_code (map to_ascii_uppercase code) then Some (Explain code) else None
 
 -- the word for it
 abbrev pub explain_in : List Row → Option Asked

@@ -7,12 +7,13 @@ use Rattle.commands.specs.Line.{AsksFor, AsksHelp, AsksVersion, IsMisuse, stated
 abbrev pub PlainWithNames : Type 0
 PlainWithNames = AsksFor (codes "plain" ∷ codes "a.alg" ∷ codes "b.pgm" ∷ codes "c.pgm" ∷ []) (Picture (record { way = Plain (2 ^ 32); algorithm = codes "a.alg"; input = codes "b.pgm"; output = codes "c.pgm" }))
 
--- two behind `format`, and a code behind `explain`
+-- two behind `format`, and a code behind `explain`, with a capital letter or a small one
 abbrev pub FormatWithNames : Type 0
 FormatWithNames = AsksFor (codes "format" ∷ codes "a.alg" ∷ codes "b.alg" ∷ []) (Format (record { algorithm = codes "a.alg"; output = codes "b.alg" }))
 
 abbrev pub ExplainWithCode : Type 0
-ExplainWithCode = AsksFor (codes "explain" ∷ codes "K12" ∷ []) (Explain (codes "K12")) × IsMisuse (codes "explain" ∷ codes "K15" ∷ [])
+ExplainWithCode = AsksFor (codes "explain" ∷ codes "K12" ∷ []) (Explain (codes "K12")) × AsksFor (codes "explain" ∷ codes "k12" ∷ []) (Explain (codes "k12"))
+    × IsMisuse (codes "explain" ∷ codes "K15" ∷ [])
 
 -- four behind `run`, three behind `compile`, two behind `check` and `cost`, and four behind `replay`
 abbrev pub RunWithNames : Type 0

@@ -24,6 +24,8 @@ Reads ALG and IN, and writes OUT last, whole or not at all.
 Example:
   stencil plain examples/inc.alg examples/inc.pgm out.pgm
 
+A word '--explain' tells more of a refusal than its line.
+
 Statuses:
   0  OUT is written
   2  the words
@@ -36,6 +38,8 @@ Reads ALG and writes OUT, whole or not at all. Comments are left out.
 
 Example:
   stencil format examples/inc.alg canonical.alg
+
+A word '--explain' tells more of a refusal than its line.
 
 Statuses:
   0  OUT is written
@@ -61,6 +65,8 @@ Reads ALG and SCHED, has the plan checked, and writes PLAN last, whole or not at
 Example:
   stencil compile examples/blur3.alg examples/blur3-rows.sched rows.plan
 
+A word '--explain' tells more of a refusal than its line.
+
 Statuses:
   0  PLAN is written
   1  the checker refuses the plan; the line is that of the plan that would have been written
@@ -77,6 +83,8 @@ first line says so.
 Example:
   stencil compare examples/blur3.alg examples/shapes.pgm examples/blur3-rows.sched
 
+A word '--explain' tells more of a refusal than its line.
+
 Statuses:
   0  all pictures are the same
   1  the checker refuses a plan, or a picture differs
@@ -90,6 +98,8 @@ Reads ALG and PLAN, and prints 'accepted P pieces C cells'.
 
 Example:
   stencil check examples/inc.alg examples/inc.plan
+
+A word '--explain' tells more of a refusal than its line.
 
 Statuses:
   0  the plan is accepted
@@ -106,6 +116,8 @@ cells that are fetched, and the pieces.
 Example:
   stencil cost examples/inc.alg examples/inc.plan
 
+A word '--explain' tells more of a refusal than its line.
+
 Statuses:
   0  the plan is accepted
   1  it is refused
@@ -121,6 +133,8 @@ cost.
 Example:
   stencil show examples/inc.alg examples/inc.plan
 
+A word '--explain' tells more of a refusal than its line.
+
 Statuses:
   0  the plan is accepted
   1  it is refused
@@ -134,6 +148,8 @@ Reads ALG and PLAN, has the plan checked, reads IN, and writes OUT last, whole o
 
 Example:
   stencil run examples/inc.alg examples/inc.plan examples/inc.pgm out.pgm --workers 2
+
+A word '--explain' tells more of a refusal than its line.
 
 Statuses:
   0  OUT is written
@@ -151,6 +167,8 @@ and finished, and how many cells are set.
 Example:
   stencil replay examples/two.alg examples/two.plan examples/two.pgm examples/two.order
 
+A word '--explain' tells more of a refusal than its line.
+
 Statuses:
   0  the order is replayed
   1  the checker refuses the plan
@@ -165,6 +183,8 @@ or not at all. Pieces that touch have different colours.
 
 Example:
   stencil draw examples/tile.alg examples/tile-guard.plan pieces.ppm
+
+A word '--explain' tells more of a refusal than its line.
 
 Statuses:
   0  OUT is written
@@ -182,6 +202,8 @@ line goes to standard error.
 Example:
   stencil crop examples/blur3.alg 0 0 8 8 corner.alg
 
+A word '--explain' tells more of a refusal than its line.
+
 Statuses:
   0  OUT is written
   2  the words
@@ -197,6 +219,8 @@ part P of N samples'.
 
 Example:
   stencil tiles examples/blur3.alg 16 16 tiles
+
+A word '--explain' tells more of a refusal than its line.
 
 Statuses:
   0  DIR/list is written

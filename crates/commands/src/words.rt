@@ -8,6 +8,7 @@ ghost use Rattle.commands.specs.Line.{asked_of_check, asked_of_cut, asked_of_ord
 ghost use Rattle.commands.specs.Line.{AsksFor, FailsFor, asked_of_command, asked_of_one, asked_of_plan, check_in, compare_in, compile_in, draw_in, evaluations_in, explain_in, format_in};
 ghost use Rattle.commands.specs.Line.{is_set, line, picture_in, plain_in, replay_in, run_in, stores_in, to_compare, workers_in};
 
+mod codes;
 mod described;
 mod names;
 mod values;
@@ -18,6 +19,7 @@ use crate::request::{
     CheckRequest, CompareRequest, CompileRequest, CropRequest, DrawRequest, ExplainRequest,
     FormatRequest, PictureRequest, ReplayRequest, Request, TilesRequest, Way,
 };
+use crate::words::codes::page_spelled;
 use crate::words::described::command_line;
 use crate::words::names::{
     ALGORITHM, AT_MOST, BY_FIRST, CHECK, CODE, COMPARE, COMPILE, COST, CROP, DRAW, EXPLAIN, FOLDER,
@@ -28,7 +30,6 @@ use crate::words::values::unfit;
 use crate::workers::workers_spelled;
 use clap::{ArgMatches, Error};
 use crop::Rect;
-use report::codes::page;
 use std::alloc::{AllocError, Global};
 
 // The value that a word without one gives where it stands.
@@ -98,7 +99,7 @@ fn explain_found<'a>(matches: &ArgMatches<'a>) -> Option<Request<'a>>
     ensures { option_map asked_by result ≡ explain_in (rows_of (found_of matches.now)) }
 {
     let code = matches.get_str(CODE)?;
-    let page = page(code)?;
+    let page = page_spelled(code)?;
     Some(Request::Explain(ExplainRequest { code, page }))
 }
 

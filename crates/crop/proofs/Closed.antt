@@ -7,7 +7,7 @@ use Rattle.meaning.specs.Algorithm.{Function, Algorithm}
 use Rattle.meaning.specs.Names.{same_name}
 use Rattle.meaning.specs.Conditions.{callable}
 use Rattle.meaning.proofs.Cases.{same_name_is}
-use Rattle.inference.specs.Needed.{callable_through}
+use Rattle.crop.specs.Inference.Needed.{callable_through}
 use Rattle.crop.specs.Cutting.{Kept, Cut, IsClosedAt}
 use Rattle.crop.proofs.Points.{some_bool}
 

@@ -21,7 +21,7 @@ use Rattle.meaning.proofs.Calls.{callable_hit, callable_miss, callable_other, ca
 use Rattle.meaning.proofs.Own.{named_at}
 use Rattle.meaning.proofs.Typed.{whole_is}
 use Rattle.meaning.proofs.Types.{AnswersAre}
-use Rattle.inference.specs.Needed.{callable_before}
+use Rattle.crop.specs.Inference.Needed.{callable_before}
 use Rattle.crop.specs.declared.cut.Stretch.{Stretch}
 use Rattle.crop.specs.Narrow.{narrow_extent, IsScene}
 use Rattle.crop.specs.Cutting.{Kept, Cut, lows, extents_of, origin_of, region_of, kept_named, origin_named, region_named, function_cut, functions_cut, algorithm_cut, cut_samples, IsInBox, InsideIf, HoldsBox, IsTile, AreTiles, KeepsTile, IsCut}

@@ -6,7 +6,7 @@ use Rattle.tree.specs.Term.{Term}
 use Rattle.lin.specs.declared.span.Span1.{Span1}
 use Rattle.meaning.specs.Algorithm.{Range, Change, Function, Algorithm}
 use Rattle.meaning.specs.Conditions.{callable}
-use Rattle.inference.specs.Needed.{callable_before, with_domain, names_beside}
+use Rattle.crop.specs.Inference.Needed.{callable_before, with_domain, names_beside}
 use Rattle.crop.specs.Moving.{moved}
 use Rattle.crop.specs.Cutting.{Kept, Cut, spans_of, move_over, lefts_moved, change_cut, function_cut, with_kept, functions_cut}
 

@@ -31,8 +31,8 @@ use Rattle.lin.specs.Spans.{IsInRegion}
 use Rattle.lin.proofs.TermLemmas.{all_weaker}
 use Rattle.crop.specs.declared.cut.Stretch.{Stretch}
 use Rattle.bounds.specs.Projection.Sound.{AgreeOutside}
-use Rattle.inference.specs.Needed.{callable_before, callable_through, with_domain, needed}
-use Rattle.inference.specs.Sound.{IsInIfNamed, ContainsCalls, ContainsUpdate, ContainsFunction}
+use Rattle.crop.specs.Inference.Needed.{callable_before, callable_through, with_domain, needed}
+use Rattle.crop.specs.Inference.Sound.{IsInIfNamed, ContainsCalls, ContainsUpdate, ContainsFunction}
 use Rattle.crop.specs.Narrow.{IsScene}
 use Rattle.crop.specs.Moving.{shifted}
 use Rattle.bounds.specs.Spans.{numbers}

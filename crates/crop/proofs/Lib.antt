@@ -28,3 +28,4 @@ pub mod Costs
 pub mod Prices
 pub mod Counted
 pub mod Counts
+pub mod OfInference

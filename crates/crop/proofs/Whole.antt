@@ -16,7 +16,7 @@ use Rattle.meaning.proofs.Cases.{name_differs, same_name_is}
 use Rattle.meaning.proofs.Calls.{callable_hit, callable_miss, callable_other, callable_none, take_one_more, from_take, none_before_is, none_is_input}
 use Rattle.meaning.proofs.Types.{AnswersAre}
 use Rattle.crop.specs.declared.cut.Stretch.{Stretch}
-use Rattle.inference.specs.Needed.{callable_before}
+use Rattle.crop.specs.Inference.Needed.{callable_before}
 use Rattle.crop.specs.Narrow.{narrow_extent, IsScene}
 use Rattle.crop.specs.Moving.{moved_point}
 use Rattle.crop.specs.Cutting.{Kept, Cut, lows, extents_of, origin_of, region_of, kept_named, origin_named, region_named, function_cut, functions_cut, algorithm_cut, cut_samples, IsInBox, InsideIf, HoldsBox, KeepsTile, IsCut}

@@ -22,10 +22,10 @@ use Rattle.algo.specs.Scoping.Standing.{calls_of}
 use Rattle.lin.specs.declared.span.Span1.{Span1}
 use Rattle.lin.proofs.TermLemmas.{all_weaker}
 use Rattle.bounds.specs.Projection.Unions.{united}
-use Rattle.inference.specs.Regions.{regions_of}
-use Rattle.inference.specs.Needed.{callable_before, callable_through, with_domain, names_beside, needed}
-use Rattle.inference.specs.Sound.{ContainsCalls, ContainsUpdate, ContainsFunction}
-use Rattle.inference.proofs.NeededSound.{contains-needed}
+use Rattle.crop.specs.Inference.Regions.{regions_of}
+use Rattle.crop.specs.Inference.Needed.{callable_before, callable_through, with_domain, names_beside, needed}
+use Rattle.crop.specs.Inference.Sound.{ContainsCalls, ContainsUpdate, ContainsFunction}
+use Rattle.crop.proofs.OfInference.NeededSound.{contains-needed}
 use Rattle.crop.specs.Narrow.{narrow_extent, narrowed, IsScene}
 use Rattle.crop.specs.Moving.{Move, against, moved}
 use Rattle.crop.specs.Cutting.{Kept, Cut, spans_of, region_named, move_over, lefts_moved, change_cut, function_cut, functions_cut, IsCovered, IsClosedAt}

@@ -12,7 +12,7 @@ use Rattle.bounds.specs.Spans.{numbers, are_of, ends_of}
 use Rattle.bounds.specs.declared.ends.Ends.{Ends}
 use Rattle.numeric.specs.declared.ty.Ty.TheVariants.{I32}
 use Rattle.bounds.specs.Interval.{interval}
-use Rattle.inference.specs.Needed.{callable_before, callable_through, with_domain, names_beside, needed}
+use Rattle.crop.specs.Inference.Needed.{callable_before, callable_through, with_domain, names_beside, needed}
 use Rattle.crop.specs.Moving.{Move, moved, moved_point, against}
 
 -- what is kept of a function: the points that are asked for, and the origin to which it is moved

@@ -16,3 +16,4 @@ pub mod Inside
 pub mod Rebuilt
 pub mod Mosaic
 pub mod Counts
+pub mod Inference

@@ -6,11 +6,11 @@ ghost use Rattle.algo.specs.View.{algorithm_of};
 
 use crate::callees::{Callees, function_at};
 use crate::cut::Stretch;
+use crate::inference::needed;
 use crate::numbers::small;
 use crate::regions::{region_of, region_with, update_names};
 use algo::{Algo, Function, Update};
 use bounds::{BoundsError, constant_ends, interval};
-use inference::needed;
 use lin::{Region, Scope, Span1};
 use std::alloc::{AllocError, Global};
 use tree::Expr;

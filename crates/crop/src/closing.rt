@@ -4,19 +4,19 @@ ghost use Rattle.std.specs.Prelude.{◌≡◌, ◌<◌, ℕ, List, IfOk, IsTrue,
 ghost use Rattle.meaning.specs.Algorithm.{Function as Said};
 ghost use Rattle.algo.specs.View.{algorithm_of};
 ghost use Rattle.bounds.specs.Spans.{ends_of};
-ghost use Rattle.inference.specs.Needed.{needed, callable_through};
+ghost use Rattle.crop.specs.Inference.Needed.{needed, callable_through};
 ghost use Rattle.crop.specs.Cutting.{Kept as SaidKept, HoldsBox, KeepsTile, kept_named, lows, HoldsSpan, HoldsSpans, IsCovered, IsClosedAt, region_named, spans_of};
 ghost use Rattle.crop.specs.Rebuilt.{IsKept};
 ghost use Rattle.crop.specs.View.{kept_of, cut_of};
 
 use crate::callees::function_at;
 use crate::cut::{Cut, Kept, Stretch};
+use crate::inference::needed;
 use crate::lookup::kept_named;
 use crate::regions::region_of;
 use algo::Algo;
 use algo::scoping::same_name;
 use bounds::{BoundsError, constant_ends};
-use inference::needed;
 use lin::{Region, Scope, Span1};
 use std::alloc::{AllocError, Global};
 

@@ -10,6 +10,7 @@ pub mod cropping;
 mod cut;
 mod cutting;
 pub mod error;
+pub mod inference;
 pub mod laws;
 mod lookup;
 mod moving;

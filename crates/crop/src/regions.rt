@@ -3,7 +3,7 @@
 ghost use Rattle.std.specs.Prelude.{◌≡◌, IfOk, map};
 ghost use Rattle.algo.specs.Parts.{names_of, range_of};
 ghost use Rattle.bounds.specs.Spans.{numbers};
-ghost use Rattle.inference.specs.Needed.{names_beside, with_domain};
+ghost use Rattle.crop.specs.Inference.Needed.{names_beside, with_domain};
 ghost use Rattle.crop.specs.Cutting.{spans_of};
 
 use crate::cut::Stretch;
@@ -30,6 +30,21 @@ pub(crate) fn region_of(alloc: Global, stretches: &[Stretch]) -> Result<Region, 
     Ok(region)
 }
 
+/// A region, and beside it the ranges of an update's reduction variables.
+pub(crate) fn with_domain(
+    alloc: Global,
+    region: &Region,
+    ranges: &[Range],
+) -> Result<Region, AllocError>
+    ensures { IfOk result (λ made. made ≡ with_domain region.now (map range_of ranges.now)) }
+{
+    let mut made = region.copy(alloc)?;
+    for range in ranges {
+        made.push(numbers(alloc, i64::from(range.low), i64::from(range.high))?)?;
+    }
+    Ok(made)
+}
+
 /// A box, and beside it the ranges of an update's reduction variables.
 pub(crate) fn region_with(
     alloc: Global,
@@ -38,11 +53,8 @@ pub(crate) fn region_with(
 ) -> Result<Region, AllocError>
     ensures { IfOk result (λ made. made ≡ with_domain (spans_of stretches.now) (map range_of ranges.now)) }
 {
-    let mut region = region_of(alloc, stretches)?;
-    for range in ranges {
-        region.push(numbers(alloc, i64::from(range.low), i64::from(range.high))?)?;
-    }
-    Ok(region)
+    let region = region_of(alloc, stretches)?;
+    with_domain(alloc, &region, ranges)
 }
 
 /// The names of a function's variables.

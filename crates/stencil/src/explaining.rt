@@ -4,8 +4,11 @@ ghost use Rattle.std.specs.Prelude.{◌≡◌, OnOk};
 ghost use Rattle.commands.specs.Files.{SameFiles};
 
 use crate::origins::{
-    file_again, first_no_text, plan_again, reason_again, refused_among, schedule_refused,
+    breach_again, file_again, first_no_text, plan_again, reason_again, refused_among,
+    schedule_refused,
 };
+use algo::Code;
+use breaches::{Breach, unknown_word};
 use commands::marking::{Place, bytes_of, show, show_places};
 use commands::pipeline::Fault;
 use commands::{Files, Request, Way, tell_code};
@@ -135,22 +138,36 @@ fn file_of<'a, F: Files>(
     }
 }
 
-/// Shows where in its file something is refused, where that can be read again.
+/// What more is told of what stands there than what its code means.
+fn advice_of(fault: &Fault, text: &[u8]) -> Option<&'static str> {
+    match fault {
+        Fault::Schedule {
+            code: Code::BadForm,
+            span,
+        } => unknown_word(text, span),
+        _ => None,
+    }
+}
+
+/// Shows where in its file something is refused, where that can be read again. The answer is what is told of what stands there, if
+/// it is more than what its code means.
 fn show_place<F: Files, E: Write>(
     alloc: Global,
     files: &mut F,
     request: &Request<'_>,
     fault: &Fault,
     err: &mut E,
-)
+) -> Option<&'static str>
     ensures { SameFiles (F.contents files.old) (F.contents files.new) }
 {
     let Some(place) = place_of(fault) else {
-        return;
+        return None;
     };
-    if let Some((name, text)) = file_of(alloc, files, request, fault) {
-        show(name, text.as_slice(), place, err);
-    }
+    let Some((name, text)) = file_of(alloc, files, request, fault) else {
+        return None;
+    };
+    show(name, text.as_slice(), place, err);
+    advice_of(fault, text.as_slice())
 }
 
 /// The first text that was read and is none, of those that can be read again.
@@ -302,6 +319,59 @@ fn tell_reason<F: Files, E: Write>(
     }
 }
 
+/// Shows the word of a schedule that breaks a rule, and tells what is wrong with it.
+fn put_breach<E: Write>(name: &str, text: &[u8], breach: &Breach, err: &mut E) {
+    if let Some(place) = &breach.place {
+        show(name, text, bytes_of(place), err);
+    }
+    let _ = write!(err, "{}", breach.said);
+}
+
+/// Tells which directive of this schedule breaks a rule, where that is found again. The answer is whether it was told.
+fn tell_breach<F: Files, E: Write>(
+    alloc: Global,
+    files: &mut F,
+    request: &Request<'_>,
+    fault: &Fault,
+    schedule: &str,
+    err: &mut E,
+) -> bool
+    ensures { SameFiles (F.contents files.old) (F.contents files.new) }
+{
+    let Fault::Rule { rule, function } = fault else {
+        return false;
+    };
+    let Some(name) = algorithm_of(request) else {
+        return false;
+    };
+    match breach_again(alloc, files, name, schedule, *rule, function) {
+        Some((text, breach)) => {
+            put_breach(schedule, text.as_slice(), &breach, err);
+            true
+        }
+        None => false,
+    }
+}
+
+/// Tells which directive of this schedule breaks a rule, or else what made it do so, where one of these is found again. The
+/// answer is whether it was told.
+#[tactic(auto, using(commands::proofs::Kept::same_then))]
+fn tell_cause<F: Files, E: Write>(
+    alloc: Global,
+    files: &mut F,
+    request: &Request<'_>,
+    fault: &Fault,
+    schedule: &str,
+    err: &mut E,
+) -> bool
+    ensures { SameFiles (F.contents files.old) (F.contents files.new) }
+{
+    if tell_breach(alloc, files, request, fault, schedule, err) {
+        return true;
+    }
+    tell_reason(alloc, files, request, schedule, err)
+}
+
 /// Tells which schedule breaks a rule and what made it do so, where that is found. The answer is whether it was told what did.
 #[tactic(auto, using(commands::proofs::Kept::same_then))]
 fn tell_broken<T: Threads + Sync, F: Files, E: Write>(
@@ -309,6 +379,7 @@ fn tell_broken<T: Threads + Sync, F: Files, E: Write>(
     alloc: Global,
     files: &mut F,
     request: &Request<'_>,
+    fault: &Fault,
     err: &mut E,
 ) -> bool
     ensures { SameFiles (F.contents files.old) (F.contents files.new) }
@@ -316,15 +387,15 @@ fn tell_broken<T: Threads + Sync, F: Files, E: Write>(
     match schedule_of(rt, alloc, files, request) {
         Some(name) => {
             tell_schedule(request, name, err);
-            tell_reason(alloc, files, request, name, err)
+            tell_cause(alloc, files, request, fault, name, err)
         }
         None => false,
     }
 }
 
-/// Shows where in a file a refusal stands, in a plan that was compiled too.
+/// Tells of a refusal where in a file it stands, in a plan that was compiled too, and what its code means, or what more is known.
 #[tactic(auto, using(commands::proofs::Kept::same_then))]
-fn show_where<T: Threads + Sync, F: Files, E: Write>(
+fn tell_where<T: Threads + Sync, F: Files, E: Write>(
     rt: &T,
     alloc: Global,
     files: &mut F,
@@ -334,8 +405,12 @@ fn show_where<T: Threads + Sync, F: Files, E: Write>(
 )
     ensures { SameFiles (F.contents files.old) (F.contents files.new) }
 {
-    show_place(alloc, files, request, fault, err);
+    if let Some(advice) = show_place(alloc, files, request, fault, err) {
+        let _ = write!(err, "{advice}");
+        return;
+    }
     show_compiled(rt, alloc, files, request, fault, err);
+    tell_code(alloc, fault, err);
 }
 
 /// Tells of a refusal where it stands, or what made a schedule break a rule; where no more is known, what its code means.
@@ -351,7 +426,7 @@ fn tell_fault<T: Threads + Sync, F: Files, E: Write>(
 {
     match fault {
         Fault::Rule { .. } => {
-            if !tell_broken(rt, alloc, files, request, err) {
+            if !tell_broken(rt, alloc, files, request, fault, err) {
                 tell_code(alloc, fault, err);
             }
         }
@@ -359,10 +434,7 @@ fn tell_fault<T: Threads + Sync, F: Files, E: Write>(
             tell_file(alloc, files, request, fault, err);
             tell_code(alloc, fault, err);
         }
-        _ => {
-            show_where(rt, alloc, files, request, fault, err);
-            tell_code(alloc, fault, err);
-        }
+        _ => tell_where(rt, alloc, files, request, fault, err),
     }
 }
 

@@ -4,7 +4,8 @@ ghost use Rattle.commands.specs.Files.{SameFiles};
 
 use crate::compiling::{compile_checked, plan_text, read_schedule};
 use algo::Algo;
-use commands::pipeline::Fault;
+use breaches::{Breach, find_breach, find_region_breach};
+use commands::pipeline::{BrokenRule, Fault};
 use commands::{Files, algorithm_in};
 use lower::{LowerError, lower};
 use reasons::{Reason, reason};
@@ -12,6 +13,7 @@ use sched::Sched;
 use std::alloc::Global;
 use std::str;
 use std::thread::Threads;
+use tree::token::Name;
 
 /// What made the schedule break the rule that it is refused for, where that is found and memory is there to tell it.
 fn reason_of(alloc: Global, algo: &Algo, sched: &Sched, error: &LowerError) -> Option<Reason> {
@@ -227,6 +229,79 @@ pub(crate) fn reason_again<F: Files>(
         Some(reason) => Some((text, reason)),
         None => None,
     }
+}
+
+/// What in a schedule's text makes a function break a rule, where that is found and memory is there to tell it.
+fn breach_of_text(
+    alloc: Global,
+    algo: &Algo,
+    text: &str,
+    rule: BrokenRule,
+    function: &Name,
+) -> Option<Breach> {
+    let found = match rule {
+        BrokenRule::Directive(rule) => find_breach(alloc, algo, text, rule, function),
+        BrokenRule::Region(rule) => find_region_breach(alloc, algo, text, rule, function),
+    };
+    match found {
+        Ok(breach) => breach,
+        Err(_) => None,
+    }
+}
+
+/// The same of its bytes.
+fn breach_in(
+    alloc: Global,
+    algo: &Algo,
+    bytes: &[u8],
+    rule: BrokenRule,
+    function: &Name,
+) -> Option<Breach> {
+    match str::from_utf8(bytes) {
+        Ok(text) => breach_of_text(alloc, algo, text, rule, function),
+        Err(_) => None,
+    }
+}
+
+/// The same of a schedule as its file is read once more, with its bytes.
+fn breach_of_file<F: Files>(
+    alloc: Global,
+    files: &mut F,
+    algo: &Algo,
+    schedule: &str,
+    rule: BrokenRule,
+    function: &Name,
+) -> Option<(Vec<u8>, Breach)>
+    ensures { SameFiles (F.contents files.old) (F.contents files.new) }
+{
+    let Some(bytes) = files.again(alloc, schedule) else {
+        return None;
+    };
+    match breach_in(alloc, algo, bytes.as_slice(), rule, function) {
+        Some(breach) => Some((bytes, breach)),
+        None => None,
+    }
+}
+
+/// What in a schedule makes a function of an algorithm break a rule, with the schedule's bytes, where both can be read again.
+#[tactic(auto, using(commands::proofs::Kept::same_then))]
+pub(crate) fn breach_again<F: Files>(
+    alloc: Global,
+    files: &mut F,
+    algorithm: &str,
+    schedule: &str,
+    rule: BrokenRule,
+    function: &Name,
+) -> Option<(Vec<u8>, Breach)>
+    ensures { SameFiles (F.contents files.old) (F.contents files.new) }
+{
+    let Some(text) = files.again(alloc, algorithm) else {
+        return None;
+    };
+    let Ok(algo) = algorithm_in(alloc, text.as_slice()) else {
+        return None;
+    };
+    breach_of_file(alloc, files, &algo, schedule, rule, function)
 }
 
 /// Whether a file, read once more, is no text.

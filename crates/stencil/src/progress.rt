@@ -2,7 +2,7 @@
 
 use commands::Gate;
 use std::io::{IsTerminal, Write};
-use std::sync::atomic::{AtomicU64, AtomicUsize, Ordering};
+use std::sync::atomic::{AtomicBool, AtomicU64, AtomicUsize, Ordering};
 use std::time::Instant;
 
 // The line is written at most once in so many milliseconds.
@@ -23,6 +23,8 @@ pub(crate) struct Progress<'a> {
     finished: AtomicUsize,
     /// The turn in which the line was written last.
     told: AtomicU64,
+    /// Whether a thread is writing the line.
+    is_held: AtomicBool,
 }
 
 impl<'a> Progress<'a> {
@@ -39,6 +41,7 @@ impl<'a> Progress<'a> {
             begun,
             finished: AtomicUsize::new(0),
             told: AtomicU64::new(0),
+            is_held: AtomicBool::new(false),
         }
     }
 
@@ -66,6 +69,22 @@ impl<'a> Progress<'a> {
         );
     }
 
+    /// Writes how many pieces are finished by now, where no other thread is writing the line: so no count is smaller than one
+    /// before it.
+    fn tell(&self) {
+        let is_free = self
+            .is_held
+            .compare_exchange(false, true, Ordering::SeqCst, Ordering::SeqCst)
+            .is_ok();
+        if is_free {
+            let finished = self.finished.load(Ordering::SeqCst);
+            if finished < self.pieces {
+                self.write(finished);
+            }
+            self.is_held.store(false, Ordering::SeqCst);
+        }
+    }
+
     fn erase(&self) {
         let _ = self.rt.stderr().write_all(b"\r\x1b[K");
     }
@@ -88,7 +107,7 @@ impl Gate for Progress<'_> {
                 self.erase();
             }
         } else if self.is_due(begun) {
-            self.write(finished);
+            self.tell();
             if self.finished.load(Ordering::SeqCst) >= self.pieces {
                 self.erase();
             }

@@ -4,6 +4,7 @@ ghost use Rattle.std.specs.Prelude.{◌≡◌, IfOk};
 ghost use Rattle.clap.specs.Words.{kind_of};
 
 use crate::limit::{limit_spelled, side_spelled};
+use crate::words::codes::page_spelled;
 use crate::words::described::{called_command, command_line};
 use crate::words::names::{
     AT_MOST, CODE, HEIGHT, LEFT, TILE_HEIGHT, TILE_WIDTH, TOP, WIDTH, WORKERS,
@@ -11,7 +12,6 @@ use crate::words::names::{
 use crate::workers::workers_spelled;
 use clap::error::ErrorKind;
 use clap::{ArgMatches, Command, Error};
-use report::codes::page;
 use std::alloc::{AllocError, Global};
 
 /// What a value is.
@@ -92,7 +92,7 @@ fn is_spelled(kind: Kind, text: &str) -> bool {
         Kind::Workers => workers_spelled(text).is_some(),
         Kind::Limit => limit_spelled(text).is_some(),
         Kind::Side => side_spelled(text).is_some(),
-        Kind::Code => page(text).is_some(),
+        Kind::Code => page_spelled(text).is_some(),
     }
 }
 

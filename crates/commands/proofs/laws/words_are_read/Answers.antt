@@ -16,7 +16,7 @@ returns-clause-format c = (refl, refl)
 
 pub returns-clause-explain : goal.returns-clause-explain
 unfolding clap_on_literals
-returns-clause-explain c = ((refl, refl), inr refl)
+returns-clause-explain c = ((refl, refl), (refl, refl), inr refl)
 
 pub returns-clause-run : goal.returns-clause-run
 unfolding clap_on_literals

@@ -2,7 +2,7 @@ use Rattle.std.proofs.Common.{◌≡◌, ◌∙◌, ℕ, List, [], true, subst, 
 use Rattle.std.specs.Prelude.{IsTrue, IsSome}
 use Rattle.algo.specs.Parts.{function_of}
 use Rattle.algo.specs.View.{algorithm_of}
-use Rattle.inference.specs.Needed.{needed, callable_through}
+use Rattle.crop.specs.Inference.Needed.{needed, callable_through}
 use Rattle.crop.specs.Cutting.{region_named, IsCovered}
 use Rattle.crop.specs.View.{cut_of}
 use Rattle.crop.proofs.Closed.{if_ok, through_all}

@@ -2,7 +2,7 @@ use Rattle.std.proofs.Common.{◌≡◌, ◌<◌, ℕ, [], Some}
 use Rattle.std.specs.Prelude.{slice_get}
 use Rattle.meaning.specs.Algorithm.{Function}
 use Rattle.algo.specs.View.{algorithm_of}
-use Rattle.inference.specs.Needed.{needed}
+use Rattle.crop.specs.Inference.Needed.{needed}
 use Rattle.crop.specs.Cutting.{region_named, IsCovered}
 use Rattle.crop.specs.View.{cut_of}
 use Rattle.crop.proofs.closing.covers_before.Given as goal

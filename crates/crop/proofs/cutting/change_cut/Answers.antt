@@ -2,7 +2,7 @@ use Rattle.std.proofs.Common.{◌≡◌, ◌+◌, suc, map, ap, refl, ◌∙◌,
 use Rattle.tree.specs.Term.{term_of, list_terms}
 use Rattle.algo.specs.Parts.{names_of, range_of, change_of}
 use Rattle.algo.specs.View.{algorithm_of}
-use Rattle.inference.specs.Needed.{with_domain, names_beside}
+use Rattle.crop.specs.Inference.Needed.{with_domain, names_beside}
 use Rattle.crop.specs.Moving.{moved}
 use Rattle.crop.specs.Cutting.{spans_of}
 use Rattle.crop.specs.View.{cut_of, kept_of}

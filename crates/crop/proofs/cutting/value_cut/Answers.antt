@@ -2,7 +2,7 @@ use Rattle.std.proofs.Common.{◌≡◌, map, ap, subst, ◌∙◌, pos, IfOk}
 use Rattle.tree.specs.Term.{term_of}
 use Rattle.algo.specs.Parts.{names_of}
 use Rattle.algo.specs.View.{algorithm_of}
-use Rattle.inference.specs.Needed.{callable_before}
+use Rattle.crop.specs.Inference.Needed.{callable_before}
 use Rattle.crop.specs.Moving.{Move, moved}
 use Rattle.crop.specs.Cutting.{spans_of, move_over}
 use Rattle.crop.specs.View.{cut_of}

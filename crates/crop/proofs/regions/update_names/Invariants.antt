@@ -1,6 +1,6 @@
 use Rattle.std.proofs.Common.{◌≡◌, take, map}
 use Rattle.algo.specs.Parts.{names_of, range_of}
-use Rattle.inference.specs.Needed.{names_beside}
+use Rattle.crop.specs.Inference.Needed.{names_beside}
 use Rattle.crop.proofs.regions.update_names.Given as goal
 
 abbrev pub invariant-loop-range : goal.invariant-loop-range

@@ -1,6 +1,0 @@
-pub mod Unions
-pub mod CallSound
-pub mod NeededSound
-pub mod Callable
-pub mod Updates
-pub mod Freed

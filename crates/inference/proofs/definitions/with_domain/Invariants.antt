@@ -1,7 +1,0 @@
-use Rattle.std.proofs.Common.{◌≡◌, take, map}
-use Rattle.algo.specs.Parts.{range_of}
-use Rattle.inference.specs.Needed.{with_domain}
-use Rattle.inference.proofs.definitions.with_domain.Given as goal
-
-abbrev pub invariant-loop-range : goal.invariant-loop-range
-invariant-loop-range l = l.made ≡ with_domain l.region (map range_of (take l.range-index l.ranges))
