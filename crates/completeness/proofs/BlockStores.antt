@@ -36,7 +36,7 @@ use Rattle.tails.specs.Steps.{spine_of}
 use Rattle.tails.specs.Nests.{makes_by}
 use Rattle.lower.specs.declared.lowering.Lowered.{Lowered}
 use Rattle.lower.specs.Stored.{FormulaText, StoredText, stored_functions, has_large}
-use Rattle.lower.specs.Faults.{are_whole, region_fault, no_totals}
+use Rattle.lower.specs.Faults.{are_whole, calls_of_large, region_fault, no_totals}
 use Rattle.lower.specs.Regions.{LaidText, laid_functions}
 use Rattle.lower.specs.Around.{head_scope}
 use Rattle.lower.specs.Bounded.{whole, is_bounded}
@@ -314,7 +314,8 @@ module _ (a : Algorithm) (sch : Schedule) (l : Lowered) (well : IsAlgorithm a) (
       subst (λ (es : List Extent). AllByRecursion (λ c. is_too_short (loop_numbers (texts w.function).subject.variables (texts w.function).placed.cuts es) c ≡ false) (texts w.function).placed.cuts)
       extents
       (long_shifts a sch kept n (texts w.function) me.laid there me.found) in
-      let root = root_bounded a (has_large (stored_functions a sch)) no_totals (stored_functions a sch) (laid_functions a (stored_functions a sch)) kept n (texts w.function) body.formulas me.laid
+      let root = root_bounded a (calls_of_large a (stored_functions a sch)) no_totals (stored_functions a sch) (laid_functions a (stored_functions a sch)) kept n (texts w.function)
+      body.formulas me.laid
       there body.defined me.found in
       let bounded : is_bounded a (texts w.function) (head_scope body.skeleton) (map whole body.extents) 0 body.formulas body.skeleton.nests ≡ Some true =
       subst (λ (es : List Extent). is_bounded a (texts w.function) (head_scope body.skeleton) (map whole es) 0 body.formulas body.skeleton.nests ≡ Some true) extents

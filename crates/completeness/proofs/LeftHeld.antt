@@ -67,7 +67,7 @@ use Rattle.meaning.proofs.Calls.{none_is_input}
 use Rattle.meaning.proofs.Cases.{name_differs}
 use Rattle.headline.proofs.Lists.{at_map}
 use Rattle.lower.specs.Bounded.{is_on_input, is_in_region, is_call_bounded}
-use Rattle.lower.specs.Faults.{no_totals}
+use Rattle.lower.specs.Faults.{no_totals, calls_of_large}
 use Rattle.completeness.proofs.Boxes.{AreBoxes}
 use Rattle.completeness.proofs.RegionBounds.{root_bounded, calls_bounded}
 use Rattle.completeness.proofs.SitesAt.{bounded_at}
@@ -390,7 +390,7 @@ module _ (a : Algorithm) (sch : Schedule) (l : Lowered) (well : IsAlgorithm a) (
             span_inside r.scope s (whole x) ≡ true
         own_shown i c at_c name t at_t s found =
             let spans_here = map whole m.region in
-            let root = root_bounded a (has_large gs) no_totals gs (laid_functions a gs) kept n u fs m at defined laid in
+            let root = root_bounded a (calls_of_large a gs) no_totals gs (laid_functions a gs) kept n u fs m at defined laid in
             let b = bounded_at a u (head_scope k) spans_here 0 fs k.nests root d f w at_f at_w in
             let none : 0 + d ≡ d = omega arith in
             let known : b.known ≡ r = some_same b.known r (sym b.is ∙ ap (around a u (head_scope k) w f) none ∙ stands) in

@@ -197,13 +197,18 @@ module _ (g : StoredText) (d k : ℕ) (few : k ≤ 1024) (s : Span1) (limits : S
       let y = bound (tally_of n.scope t (pos k)) (λ y. run_if g d (pos k) s t y n) x e in
       run_is t y.value n x (told_limited n.scope Max s.lower limits.0, told_limited n.scope Min s.upper limits.1) f y.comes
 
-rounding_few : (cs : List Split) → AllByRecursion (λ c. c.factor ≤ 1024) cs → (x : List ℕ) (k : ℕ) → rounding cs x ≡ Some k → k ≤ 1024
-rounding_few [] h x k e = absurd (cc e)
-rounding_few (c ∷ cs) h x k e = of (is_rounding x c) e (rounding_few cs h.1 x k)
+found_few : (all cs : List Split) → AllByRecursion (λ c. c.factor ≤ 1024) cs → (x : List ℕ) (k : ℕ)
+    → option_map (λ (c : Split). c.factor) (find (is_rounding all x) cs) ≡ Some k → k ≤ 1024
+found_few all [] h x k e = absurd (cc e)
+found_few all (c ∷ cs) h x k e = of (is_rounding all x c) e (found_few all cs h.1 x k)
   where
-    of : (b : Bool) → option_map (λ (c : Split). c.factor) (if b then Some c else find (is_rounding x) cs) ≡ Some k → (rounding cs x ≡ Some k → k ≤ 1024) → k ≤ 1024
+    of : (b : Bool) → option_map (λ (c : Split). c.factor) (if b then Some c else find (is_rounding all x) cs) ≡ Some k
+        → (option_map (λ (c : Split). c.factor) (find (is_rounding all x) cs) ≡ Some k → k ≤ 1024) → k ≤ 1024
     of true q rest = (let is : c.factor ≡ k = same c.factor k q in subst (λ (n : ℕ). n ≤ 1024) is h.0)
     of false q rest = rest q
+
+rounding_few : (cs : List Split) → AllByRecursion (λ c. c.factor ≤ 1024) cs → (x : List ℕ) (k : ℕ) → rounding cs x ≡ Some k → k ≤ 1024
+rounding_few cs h x k e = found_few cs cs h x k e
 
 -- ---- what is named before nests
 

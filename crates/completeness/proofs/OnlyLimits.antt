@@ -6,6 +6,7 @@ use Rattle.plan.specs.View.{plan_of}
 use Rattle.plan.specs.Lines.{group_line}
 use Rattle.plan.specs.Certificate.Certificate.{Certificate, certificate_of}
 use Rattle.meaning.specs.Algorithm.{Algorithm}
+use Rattle.plan.specs.Semantics.Setting.{setting_of}
 use Rattle.soundness.specs.Given.{outline_of}
 use Rattle.soundness.specs.Outline.Flaws.{Flaw, unless, first_of, line_told}
 use Rattle.validation.specs.Groups.Lines.{Here, in_loop, inside, in_later, before, after, is_empty, flaws_of_groups, start}
@@ -76,7 +77,7 @@ module _ (C : Type 0) (Q : Statement → Here → Type 0) where
 
 module _ (a : Algorithm) (p : Plan) (c : Certificate) (n : ℕ) (g : Group) (k l : ℕ) where
   abbrev Vector : Statement → Here → Type 0
-  Vector s here = (line_told here.line ≡ l) × IsNoVector (outline_of p c n g).setting.dimensions s
+  Vector s here = (line_told here.line ≡ l) × IsNoVector a (setting_of p c n g) s
 
   abbrev Asked : Statement → Here → Tests
   Asked s here = tests a p c g (outline_of p c n g) s here
@@ -117,12 +118,12 @@ module _ (a : Algorithm) (p : Plan) (c : Certificate) (n : ℕ) (g : Group) (k l
       of (inr (inr (inr w))) = absurd (no w.1)
 
 -- a flaw of the lines of groups is one of these, or a wrong vector loop
-flaw_is : (a : Algorithm) (p : Plan) (c : Certificate) (k l : ℕ) → Has k l (flaws_of_groups a p c) → IsOther k ⊎ IsNoVectorAt p c l
+flaw_is : (a : Algorithm) (p : Plan) (c : Certificate) (k l : ℕ) → Has k l (flaws_of_groups a p c) → IsOther k ⊎ IsNoVectorAt a p c l
 flaw_is a p c k l h =
     let w = found_in a p c k l h in
     of w.number w.group w.is.there w.is.has
   where
-    of : (n : ℕ) (g : Group) → slice_get p.groups n ≡ Some g → Has k l (head a p c n g (cells_at p.groups n 0) (pieces_at p.groups n 0)) ⊎ Has k l (body a p c n g) → IsOther k ⊎ IsNoVectorAt p c l
+    of : (n : ℕ) (g : Group) → slice_get p.groups n ≡ Some g → Has k l (head a p c n g (cells_at p.groups n 0) (pieces_at p.groups n 0)) ⊎ Has k l (body a p c n g) → IsOther k ⊎ IsNoVectorAt a p c l
     of n g there (inl i) = inl (head_is a p c n g k l (cells_at p.groups n 0) (pieces_at p.groups n 0) i)
     of n g there (inr i) =
         let first = start (line_told (group_line p n)) g in
@@ -154,7 +155,7 @@ told a s l well legal small regions groups all free lines once f e =
     with_code : (k : ℕ) → f.code ≡ k → first_of (flaws_of_groups a (plan_of l.plan) (certificate_of l.certificate)) ≡ Some (record { code = k; line = f.line })
     with_code k is = first_is f (flaws_of_groups a (plan_of l.plan) (certificate_of l.certificate)) e k is
 
-    of : IsOther f.code ⊎ IsNoVectorAt (plan_of l.plan) (certificate_of l.certificate) f.line → f.code ≡ 14
+    of : IsOther f.code ⊎ IsNoVectorAt a (plan_of l.plan) (certificate_of l.certificate) f.line → f.code ≡ 14
     of (inl (inl is)) =
         absurd (names_known a s l well legal small regions groups all free lines f.line ((unknown_told a (plan_of l.plan) (certificate_of l.certificate)).meant f.line (with_code 2 is)))
     of (inl (inr (inl is))) =

@@ -1,6 +1,6 @@
 -- The origins of a piece's own places are within the limits of forms: `lower` tests the sums that it makes them of, and else makes no plan.
 use Rattle.std.proofs.Common.{◌≡◌, ℕ, zero, suc, ◌+◌, Bool, true, false, List, [], ◌∷◌, ◌++◌, Option, Some, None, refl, subst, arith}
-use Rattle.std.specs.Prelude.{ℤ, pos, if◌then◌else◌, slice_get}
+use Rattle.std.specs.Prelude.{ℤ, pos, Ok, if◌then◌else◌, slice_get}
 use Rattle.std.specs.List.{AllByRecursion}
 use Rattle.std.specs.Ordering.{int_eq}
 use Rattle.lin.specs.Forms.{Form, number, combined}
@@ -26,7 +26,7 @@ use Rattle.lower.specs.Blocks.{places_by, whole_dimension, own_places, dimension
 use Rattle.lower.specs.Planned.{maybe_stepped, maybe_moved, told_start, told_limits, told_inner_limits, shifted_origin, told_origin, told_inner_origin, told_blocks, told_within, told_joined}
 use Rattle.lower.specs.Planned.{told_part}
 use Rattle.lower.specs.Planned.{told_span, told_by, told_dimension, add_dimensions, told_dimensions, is_owned_by, is_written, is_planned, name_unless, or_later, unplanned_at}
-use Rattle.lower.specs.Planned.{first_unplanned, first_unlaid, unplanned_over}
+use Rattle.lower.specs.Planned.{none_inside, first_unplanned, first_unlaid, unplanned_over}
 use Rattle.lower.proofs.Laying.{bound, same}
 use Rattle.lower.proofs.Planned.{dimensions_are}
 use Rattle.completeness.proofs.Limited.{Limited, LimitedIf, named_limited}
@@ -203,27 +203,27 @@ first_true : (a b : Bool) → (if a then b else false) ≡ true → a ≡ true
 first_true true b e = refl
 first_true false b e = absurd (cc e)
 
-all_planned : (a : Algorithm) (all : List Entry) (n : ℕ) (es : List Entry) → first_unplanned a all n es ≡ None → (i : ℕ) (e : Entry) → slice_get es i ≡ Some e → is_planned a all (n + i) e ≡ true
+all_planned : (a : Algorithm) (all : List Entry) (n : ℕ) (es : List Entry) → first_unplanned a all n (none_inside es) es ≡ None → (i : ℕ) (e : Entry) → slice_get es i ≡ Some e → is_planned a all (n + i) [] e ≡ true
 all_planned a all n [] h i e at = absurd (cc at)
 all_planned a all n (x ∷ es) h zero e at =
-    let parts = or_none (unplanned_at a all n x) (first_unplanned a all (n + 1) es) h in
+    let parts = or_none (unplanned_at a all n (Ok []) x) (first_unplanned a all (n + 1) (none_inside es) es) h in
     let is : x ≡ e = cc at in
     let none : n ≡ n + 0 = omega arith in
-    subst (λ (m : ℕ). is_planned a all m e ≡ true) none (subst (λ (y : Entry). is_planned a all n y ≡ true) is (unless_none (is_planned a all n x) x.0.subject.name parts.0))
+    subst (λ (m : ℕ). is_planned a all m [] e ≡ true) none (subst (λ (y : Entry). is_planned a all n [] y ≡ true) is (unless_none (is_planned a all n [] x) x.0.subject.name parts.0))
 all_planned a all n (x ∷ es) h (suc i) e at =
-    let parts = or_none (unplanned_at a all n x) (first_unplanned a all (n + 1) es) h in
+    let parts = or_none (unplanned_at a all n (Ok []) x) (first_unplanned a all (n + 1) (none_inside es) es) h in
     let next : (n + 1) + i ≡ n + suc i = omega arith in
-    subst (λ (m : ℕ). is_planned a all m e ≡ true) next (all_planned a all (n + 1) es parts.1 i e at)
+    subst (λ (m : ℕ). is_planned a all m [] e ≡ true) next (all_planned a all (n + 1) es parts.1 i e at)
 
 told_of : (g : StoredText) (region : List Extent) (o : Option (List Dimension)) → is_owned_by g region o ≡ true → (ds : List Dimension) × (o ≡ Some ds)
 told_of g region None e = absurd (cc e)
 told_of g region (Some ds) e = (ds, refl)
 
-pub dimensions_told : (a : Algorithm) (gs : List StoredText) (ls : List (Option LaidText)) → unplanned_over a gs ls ≡ None → (i : ℕ) (e : Entry) → slice_get (rooted true gs ls) i ≡ Some e →
+pub dimensions_told : (a : Algorithm) (gs : List StoredText) (ls : List (Option LaidText)) → unplanned_over a gs ls (none_inside (rooted true gs ls)) ≡ None → (i : ℕ) (e : Entry) → slice_get (rooted true gs ls) i ≡ Some e →
     (ds : List Dimension) × (told_dimensions e.0 e.1.region e.1.skeleton ≡ Some ds)
 dimensions_told a gs ls h i e at =
     let all = rooted true gs ls in
-    let parts = or_none (first_unlaid gs ls) (first_unplanned a all 0 all) h in
+    let parts = or_none (first_unlaid gs ls) (first_unplanned a all 0 (none_inside all) all) h in
     let planned = all_planned a all 0 all parts.1 i e at in
     let told = told_dimensions e.0 e.1.region e.1.skeleton in
-    told_of e.0 e.1.region told (first_true (is_owned_by e.0 e.1.region told) (is_written a all (0 + i) e) planned)
+    told_of e.0 e.1.region told (first_true (is_owned_by e.0 e.1.region told) (is_written a all (0 + i) [] e) planned)

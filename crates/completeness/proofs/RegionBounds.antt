@@ -114,19 +114,19 @@ within_bounded a g fs t l h = of (is_shifted_little g l) (pass_limits t) (is_roo
     of false true o q = absurd (cc q)
     of false false o q = told o q
 
-pub root_bounded : (a : Algorithm) (large : Bool) (t : Totals) (gs : List StoredText) (ls : List (Option LaidText)) → fault_from a large t gs ls ≡ None →
+pub root_bounded : (a : Algorithm) (left : List Written) (t : Totals) (gs : List StoredText) (ls : List (Option LaidText)) → fault_from a left t gs ls ≡ None →
     (n : ℕ) (g : StoredText) (fs : List FormulaText) (l : LaidText) → slice_get gs n ≡ Some g → g.formulas ≡ Some fs → slice_get ls n ≡ Some (Some l) → is_root_bounded a g fs l ≡ Some true
-root_bounded a large t [] ls h n g fs l at is laid = absurd (cc at)
-root_bounded a large t (g ∷ gs) [] h n u fs l at is laid = absurd (cc laid)
-root_bounded a large t (g ∷ gs) (m ∷ ls) h zero u fs l at is laid =
+root_bounded a left t [] ls h n g fs l at is laid = absurd (cc at)
+root_bounded a left t (g ∷ gs) [] h n u fs l at is laid = absurd (cc laid)
+root_bounded a left t (g ∷ gs) (m ∷ ls) h zero u fs l at is laid =
     let same_text : g ≡ u = same g u at in
     let first : m ≡ Some l = same m (Some l) laid in
-    let none = none_first g (fault_of a large t g m) (fault_from a large (totals_with t g m) gs ls) h in
-    let here : fault_by a large t u (Some fs) (Some l) ≡ None =
-    sym (λ i. fault_by a large t (same_text i) (((ap (λ (v : StoredText). v.formulas) same_text) ∙ is) i) (first i)) ∙ none in
+    let none = none_first g (fault_of a left t g m) (fault_from a left (totals_with t g m) gs ls) h in
+    let here : fault_by a left t u (Some fs) (Some l) ≡ None =
+    sym (λ i. fault_by a left t (same_text i) (((ap (λ (v : StoredText). v.formulas) same_text) ∙ is) i) (first i)) ∙ none in
     within_bounded a u fs (with_laid t l) l here
-root_bounded a large t (g ∷ gs) (m ∷ ls) h (suc n) u fs l at is laid =
-    root_bounded a large (totals_with t g m) gs ls (none_later g (fault_of a large t g m) (fault_from a large (totals_with t g m) gs ls) h) n u fs l at is laid
+root_bounded a left t (g ∷ gs) (m ∷ ls) h (suc n) u fs l at is laid =
+    root_bounded a left (totals_with t g m) gs ls (none_later g (fault_of a left t g m) (fault_from a left (totals_with t g m) gs ls) h) n u fs l at is laid
 
 -- ---- the first definition
 

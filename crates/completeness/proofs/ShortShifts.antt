@@ -14,10 +14,11 @@ use Rattle.sched.specs.Schedule.{Schedule}
 use Rattle.sched.specs.Legal.{IsLegal, said, loops_after}
 use Rattle.sched.specs.Numbers.{loop_numbers, is_too_short, has_short_shift}
 use Rattle.sched.specs.Placing.{is_shifted}
-use Rattle.lower.specs.Stored.{FormulaText, StoredText, flags, has_large, stored_functions}
+use Rattle.algo.specs.Scoping.Standing.{Written}
+use Rattle.lower.specs.Stored.{FormulaText, StoredText, flags, stored_functions}
 use Rattle.lower.specs.Regions.{LaidText, laid_functions}
 use Rattle.lower.specs.Bounded.{is_root_bounded}
-use Rattle.lower.specs.Faults.{no_totals, with_laid, pass_limits, is_shifted_little, unless_bounded, fault_by, fault_of, totals_with, or_later, fault_from, region_fault}
+use Rattle.lower.specs.Faults.{no_totals, with_laid, pass_limits, is_shifted_little, unless_bounded, fault_by, fault_of, totals_with, or_later, fault_from, calls_of_large, region_fault}
 use Rattle.lower.proofs.Laying.{same}
 use Rattle.completeness.proofs.Standing.{Taken}
 use Rattle.completeness.proofs.LoopMoves.{or_none}
@@ -36,25 +37,25 @@ none_later : (g : StoredText) (o : Option RegionRule) (later : Option (RegionRul
 none_later g None later q = q
 none_later g (Some r) later q = absurd (cc q)
 
-long_within : (a : Algorithm) (g : StoredText) (o : Option (List FormulaText)) (large : Bool) (t : Totals) (l : LaidText) → fault_by a large t g o (Some l) ≡ None → is_shifted_little g l ≡ false
-long_within a g None large t l h = absurd (cc h)
+long_within : (a : Algorithm) (g : StoredText) (o : Option (List FormulaText)) (left : List Written) (t : Totals) (l : LaidText) → fault_by a left t g o (Some l) ≡ None → is_shifted_little g l ≡ false
+long_within a g None left t l h = absurd (cc h)
 long_within a g (Some fs) large t l h = of (is_shifted_little g l) (pass_limits (with_laid t l)) (unless_bounded (is_root_bounded a g fs l)) h
   where
     of : (b c : Bool) (o : Option RegionRule) → (if b then Some ShortShift else (if c then Some TooMuch else o)) ≡ None → b ≡ false
     of true c o q = absurd (cc q)
     of false c o q = refl
 
-long_at : (a : Algorithm) (large : Bool) (t : Totals) (gs : List StoredText) (ls : List (Option LaidText)) → fault_from a large t gs ls ≡ None → (n : ℕ) (g : StoredText) (l : LaidText) →
+long_at : (a : Algorithm) (left : List Written) (t : Totals) (gs : List StoredText) (ls : List (Option LaidText)) → fault_from a left t gs ls ≡ None → (n : ℕ) (g : StoredText) (l : LaidText) →
     slice_get gs n ≡ Some g → slice_get ls n ≡ Some (Some l) → is_shifted_little g l ≡ false
-long_at a large t [] ls h n g l at laid = absurd (cc at)
-long_at a large t (g ∷ gs) [] h n u l at laid = absurd (cc laid)
-long_at a large t (g ∷ gs) (m ∷ ls) h zero u l at laid =
+long_at a left t [] ls h n g l at laid = absurd (cc at)
+long_at a left t (g ∷ gs) [] h n u l at laid = absurd (cc laid)
+long_at a left t (g ∷ gs) (m ∷ ls) h zero u l at laid =
     let same_text : g ≡ u = same g u at in
     let first : m ≡ Some l = same m (Some l) laid in
-    let none = none_first g (fault_of a large t g m) (fault_from a large (totals_with t g m) gs ls) h in
-    long_within a u u.formulas large t l (sym (λ i. fault_by a large t (same_text i) (StoredText.formulas (same_text i)) (first i)) ∙ none)
-long_at a large t (g ∷ gs) (m ∷ ls) h (suc n) u l at laid =
-    long_at a large (totals_with t g m) gs ls (none_later g (fault_of a large t g m) (fault_from a large (totals_with t g m) gs ls) h) n u l at laid
+    let none = none_first g (fault_of a left t g m) (fault_from a left (totals_with t g m) gs ls) h in
+    long_within a u u.formulas left t l (sym (λ i. fault_by a left t (same_text i) (StoredText.formulas (same_text i)) (first i)) ∙ none)
+long_at a left t (g ∷ gs) (m ∷ ls) h (suc n) u l at laid =
+    long_at a left (totals_with t g m) gs ls (none_later g (fault_of a left t g m) (fault_from a left (totals_with t g m) gs ls) h) n u l at laid
 
 none_short : (ns : List Numbers) (cs : List Split) → has_short_shift ns cs ≡ false → AllByRecursion (λ c. is_too_short ns c ≡ false) cs
 none_short ns [] e = tt
@@ -65,7 +66,7 @@ pub long_shifts : (a : Algorithm) (sch : Schedule) → region_fault a (stored_fu
     AllByRecursion (λ c. is_too_short (loop_numbers g.subject.variables g.placed.cuts l.region) c ≡ false) g.placed.cuts
 long_shifts a sch kept n g l at laid =
     none_short (loop_numbers g.subject.variables g.placed.cuts l.region) g.placed.cuts
-    (long_at a (has_large (stored_functions a sch)) no_totals (stored_functions a sch) (laid_functions a (stored_functions a sch)) kept n g l at laid)
+    (long_at a (calls_of_large a (stored_functions a sch)) no_totals (stored_functions a sch) (laid_functions a (stored_functions a sch)) kept n g l at laid)
 
 -- ---- functions with updates
 

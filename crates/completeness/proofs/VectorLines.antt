@@ -1,6 +1,6 @@
 -- No vector loop of whole functions is wrong, where no loop that a split makes is split again.
 use Rattle.std.proofs.Common.{◌≡◌, ℕ, zero, suc, ◌+◌, ◌<◌, Bool, true, false, ◌&&◌, ◌||◌, List, [], ◌∷◌, ◌++◌, drop, length, Option, Some, None, refl, sym, ap, ◌∙◌, subst, inl, inr, arith}
-use Rattle.std.specs.Prelude.{pos, ◌==◌, not, int_le, slice_get, IsSomeAnd}
+use Rattle.std.specs.Prelude.{pos, ◌==◌, if◌then◌else◌, not, int_le, slice_get, IsSomeAnd}
 use Rattle.std.specs.List.{AllByRecursion, Any, list_any}
 use Rattle.std.proofs.lemmas.Bool.Decides.{nat_tests}
 use Rattle.tree.specs.Term.{Term}
@@ -15,7 +15,8 @@ use Rattle.plan.specs.Plan.{Index, At, Found, Coordinate, Statement, Seq, For, L
 use Rattle.plan.specs.View.{group_of, plan_of, statement_of}
 use Rattle.plan.specs.Lines.{block_lines, group_line}
 use Rattle.plan.specs.Certificate.Certificate.{Certificate, certificate_of}
-use Rattle.plan.specs.Semantics.Setting.{allocated, dimensions_in}
+use Rattle.plan.specs.Semantics.Actions.{Setting}
+use Rattle.plan.specs.Semantics.Setting.{allocated, dimensions_in, setting_of}
 use Rattle.meaning.specs.Algorithm.{Range, Change, Function, Algorithm}
 use Rattle.meaning.specs.Names.{same_name}
 use Rattle.meaning.specs.Conditions.{IsAlgorithm}
@@ -40,7 +41,9 @@ use Rattle.sched.specs.Runs.{lines_to}
 use Rattle.sched.specs.Skeleton.{NestText, SkeletonText, variables_at, ranges_at}
 use Rattle.sched.proofs.Leading.{In}
 use Rattle.sched.proofs.Rooting.{all_at}
-use Rattle.validation.specs.Groups.Lanes.{goes_by, admits_lanes, stores_lanes, takes_lanes}
+use Rattle.validation.specs.Stored.Definitions.{parts_named, Definition, definition_in, function_in}
+use Rattle.validation.specs.Stored.Stored.{has_names as are_names}
+use Rattle.validation.specs.Groups.Lanes.{goes_by, admits_lanes, reductions, reductions_in, stores_lanes, takes_lanes}
 use Rattle.validation.specs.Groups.Lines.{Here, start}
 use Rattle.validation.specs.Groups.Inside.{Inside}
 use Rattle.lower.specs.declared.lowering.Lowered.{Lowered}
@@ -102,11 +105,20 @@ module _ (ms : Loads) (lane : ℕ) where
   others_free (x ∷ xs) (o ∷ os) qs lefts [] h free = absurd h
   others_free (x ∷ xs) (o ∷ os) qs lefts (c ∷ cs) h free = others_free xs os qs (other_lefts lefts) cs h.2 free
 
+-- no reduction variable has the lane where none of the coordinates behind the variables has it
+fewer_free : (lane : ℕ) (o : Option Definition) (n : ℕ) (cs : List Coordinate) → list_any (λ c. goes_by lane c.index) (drop n cs) ≡ false → list_any (λ c. goes_by lane c.index) (reductions_in o n cs) ≡ false
+fewer_free lane None n cs h = refl
+fewer_free lane (Some m) n cs h = of (are_names m cs && (n == length (function_in m).variables))
+  where
+    of : (b : Bool) → list_any (λ c. goes_by lane c.index) (if b then drop n cs else []) ≡ false
+    of true = h
+    of false = refl
+
 -- ---- steps
 
-module _ (dims : ℕ → ℕ) where
+module _ (a : Algorithm) (setting : Setting) where
   abbrev P : Statement → Type 0
-  P = IsNoVector dims
+  P = IsNoVector a setting
 
   scalar_clear : (ss : List Step) (inner : Statements) → AreScalar ss → ClearAll P inner → ClearAll P (lines_to ss inner)
   scalar_clear [] inner h k = k
@@ -134,31 +146,32 @@ module _ (dims : ℕ → ℕ) where
   clash false e k = cc e
 
   -- the loop of a lane, where reduction variables do not go by it
-  module _ (lane : ℕ) (x : Span1) (b k : ℕ) (cs : List Coordinate) (e : Term) (stores : list_any (λ c. goes_by lane c.index) (drop (dims b) cs) ≡ false) where
+  module _ (lane : ℕ) (x : Span1) (b k : ℕ) (cs : List Coordinate) (e : Term) (stores : list_any (λ c. goes_by lane c.index) (reductions a setting b k cs) ≡ false) where
     abbrev inside : Statements
     inside = Then (Store b k cs e) Empty
 
-    stored : stores_lanes dims lane (Some (Store b k cs e)) ≡ true
+    stored : stores_lanes a setting lane (Some (Store b k cs e)) ≡ true
     stored = ap not stores
 
-    admits : (low : Form) (last : _) → factor_of low.terms lane ≡ pos 1 → takes_lanes dims lane (Some (Guard low (number last) (Seq inside))) ≡ true
-    admits low last is = both (admits_lanes lane low (number last)) (stores_lanes dims lane (Some (Store b k cs e))) (admitted lane low last is) stored
+    admits : (low : Form) (last : _) → factor_of low.terms lane ≡ pos 1 → takes_lanes a setting lane (Some (Guard low (number last) (Seq inside))) ≡ true
+    admits low last is = both (admits_lanes lane low (number last)) (stores_lanes a setting lane (Some (Store b k cs e))) (admitted lane low last is) stored
 
     vector_clear : (inner : List Step) → LaneSteps lane inner → ClearAll P (lines_to (Turns lane x Vector ∷ inner) (Then (Store b k cs e) Empty))
     vector_clear inner (inl none) =
         subst (λ (ss : List Step). ClearAll P (lines_to (Turns lane x Vector ∷ ss) inside)) (sym none)
-        ((clash (stores_lanes dims lane (Some (Store b k cs e))) stored, ((λ e. e), tt)), tt)
+        ((clash (stores_lanes a setting lane (Some (Store b k cs e))) stored, ((λ e. e), tt)), tt)
     vector_clear inner (inr (low, last, are, factor)) =
         subst (λ (ss : List Step). ClearAll P (lines_to (Turns lane x Vector ∷ ss) inside)) (sym are)
-        ((clash (takes_lanes dims lane (Some (Guard low (number last) (Seq inside)))) (admits low last factor), (((λ e. e), ((λ e. e), tt)), tt)), tt)
+        ((clash (takes_lanes a setting lane (Some (Guard low (number last) (Seq inside)))) (admits low last factor), (((λ e. e), ((λ e. e), tt)), tt)), tt)
 
   -- the steps of a nest
   laned_clear : (ms : Loads) (xs : List (List ℕ)) (steps : List Step) (os ranges : List (Option Form)) (lefts : List (Option Term)) (b k : ℕ) (cs : List Coordinate) (e : Term) →
-      IsLaned steps ranges → AreCoordinates ms xs (os ++ ranges) lefts cs → dims b ≡ length os → ClearAll P (lines_to steps (Then (Store b k cs e) Empty))
+      IsLaned steps ranges → AreCoordinates ms xs (os ++ ranges) lefts cs → setting.dimensions b ≡ length os → ClearAll P (lines_to steps (Then (Store b k cs e) Empty))
   laned_clear ms xs steps os ranges lefts b k cs e (inl scalar) h long = scalar_clear steps (Then (Store b k cs e) Empty) scalar ((λ e. e), tt)
   laned_clear ms xs steps os ranges lefts b k cs e (inr (before, inner, lane, x, are, scalar, lanes, free)) h long =
-      let stores : list_any (λ c. goes_by lane c.index) (drop (dims b) cs) ≡ false =
+      let behind : list_any (λ c. goes_by lane c.index) (drop (setting.dimensions b) cs) ≡ false =
       ap (λ (n : ℕ). list_any (λ c. goes_by lane c.index) (drop n cs)) long ∙ others_free ms lane xs os ranges lefts cs h free in
+      let stores = fewer_free lane (definition_in (parts_named a (setting.buffer_function b)) k) (setting.dimensions b) cs behind in
       let last = vector_clear lane x b k cs e stores inner lanes in
       let code : lines_to steps (Then (Store b k cs e) Empty) ≡ lines_to before (lines_to (Turns lane x Vector ∷ inner) (Then (Store b k cs e) Empty)) =
       ap (λ (ss : List Step). lines_to ss (Then (Store b k cs e) Empty)) are ∙ lines_joined before (Turns lane x Vector ∷ inner) (Then (Store b k cs e) Empty) in
@@ -261,8 +274,8 @@ module _ (a : Algorithm) (sch : Schedule) (l : Lowered) (well : IsAlgorithm a) (
     abbrev fs : List FormulaText
     fs = h.formulas
 
-    abbrev dims : ℕ → ℕ
-    dims b = dimensions_in (allocated (statement_of q.body) b)
+    abbrev set : Setting
+    set = setting_of p c n (group_of q)
 
     abbrev placed : PlacedText
     placed = loops_after (said sch) f
@@ -276,7 +289,7 @@ module _ (a : Algorithm) (sch : Schedule) (l : Lowered) (well : IsAlgorithm a) (
         (split_once placed.cuts (all_get (λ g. AreSplitOnce g.placed.cuts) (stored_functions a sch) n (text f) once there))
         (all_scalar (drop 1 placed.loops) (legal.whole place f rule.BadMark at)) (bodies_serial f.changes 0 (reductions_of f.changes) fs) h.laid d w stands
 
-    own_long : dims 0 ≡ length f.variables
+    own_long : set.dimensions 0 ≡ length f.variables
     own_long =
         let places = own_places (dimensions_of (text f) h.extents k) in
         let lets = (names_own f.variables (bodies_from f.changes 0 (reductions_of f.changes) fs) placed h.extents k h.laid).lets in
@@ -284,14 +297,14 @@ module _ (a : Algorithm) (sch : Schedule) (l : Lowered) (well : IsAlgorithm a) (
         ∙ ap dimensions_in (lets_allot k.head (Then (Alloc 0 f.name places) (block (with_fetches h.body.fetches (h.body.nests ++ Publish (last_claim first h.body.fetches k) ∷ [])))) 0 lets)
         ∙ places_long (lay_over (text f) h.extents k) placed.cuts f.variables
 
-    nest_clear : (ms : Loads) (d : ℕ) (w : NestText) → slice_get k.nests d ≡ Some w → (s : Statement) → IsStore (text f) fs ms d w s → ClearAll (IsNoVector dims) (lines_to w.steps (Then s Empty))
+    nest_clear : (ms : Loads) (d : ℕ) (w : NestText) → slice_get k.nests d ≡ Some w → (s : Statement) → IsStore (text f) fs ms d w s → ClearAll (IsNoVector a set) (lines_to w.steps (Then s Empty))
     nest_clear ms d w stands (Store b m cs e) is =
         let n = laned d w stands in
         let u = stored_there (slice_get fs d) is.2 in
         let ks = n.standing.known in
         let at_nest = subst (λ (z : NestText). AreCoordinates ms (names_with f.variables f.changes d) z.at u.0.at cs) n.is u.1.at in
-        let long : dims b ≡ length (variables_at n.body 0 f.variables ks) = ap dims is.0 ∙ own_long ∙ sym (variables_long n.body 0 f.variables ks) in
-        laned_clear dims ms (names_with f.variables f.changes d) w.steps (variables_at n.body 0 f.variables ks) (ranges_at n.body.ranges ks) u.0.at b m cs e n.laned at_nest long
+        let long : set.dimensions b ≡ length (variables_at n.body 0 f.variables ks) = ap set.dimensions is.0 ∙ own_long ∙ sym (variables_long n.body 0 f.variables ks) in
+        laned_clear a set ms (names_with f.variables f.changes d) w.steps (variables_at n.body 0 f.variables ks) (ranges_at n.body.ranges ks) u.0.at b m cs e n.laned at_nest long
       where
         stored_there : {R : FormulaText → Type 0} (o : Option FormulaText) → IsSomeAnd o R → (x : FormulaText) × R x
         stored_there None h = absurd h
@@ -306,29 +319,29 @@ module _ (a : Algorithm) (sch : Schedule) (l : Lowered) (well : IsAlgorithm a) (
     nest_clear ms d w stands (Publish x) is = absurd is
 
     nests_clear : (r : List Span1) (ms : Loads) (m at_line d : ℕ) (ns : List NestText) (xs : List Statement) (cs : List CodeClaim) → AreNests (text f) fs r ms m at_line d ns xs cs →
-        ((j : ℕ) (w : NestText) → slice_get ns j ≡ Some w → slice_get k.nests (d + j) ≡ Some w) → ClearAll (IsNoVector dims) (block xs)
-    nests_clear r ms m at_line d [] xs cs is stands = subst (λ (ys : List Statement). ClearAll (IsNoVector dims) (block ys)) (sym is.0) tt
+        ((j : ℕ) (w : NestText) → slice_get ns j ≡ Some w → slice_get k.nests (d + j) ≡ Some w) → ClearAll (IsNoVector a set) (block xs)
+    nests_clear r ms m at_line d [] xs cs is stands = subst (λ (ys : List Statement). ClearAll (IsNoVector a set) (block ys)) (sym is.0) tt
     nests_clear r ms m at_line d (w ∷ ns) xs [] is stands = absurd is
     nests_clear r ms m at_line d (w ∷ ns) xs (v ∷ cs) is stands =
         let nest = is.here.nest in
         let none : d + 0 ≡ d = omega arith in
-        let here : ClearAll (IsNoVector dims) (block is.first) = subst (ClearAll (IsNoVector dims)) (sym nest.comes)
+        let here : ClearAll (IsNoVector a set) (block is.first) = subst (ClearAll (IsNoVector a set)) (sym nest.comes)
         (nest_clear ms d w (ap (slice_get k.nests) (sym none) ∙ stands 0 w refl) nest.store nest.stores) in
         let rest = nests_clear r (ms ++ (f.name, m) ∷ []) (m + 1) (at_line + block_lines (block is.first)) (d + 1) ns is.others cs is.behind
         (λ j y e. let next : d + suc j ≡ (d + 1) + j = omega arith in ap (slice_get k.nests) (sym next) ∙ stands (suc j) y e) in
-        subst (λ (ys : List Statement). ClearAll (IsNoVector dims) (block ys)) (sym is.are) (joined_clear (IsNoVector dims) is.first is.others here rest)
+        subst (λ (ys : List Statement). ClearAll (IsNoVector a set) (block ys)) (sym is.are) (joined_clear (IsNoVector a set) is.first is.others here rest)
 
-    body_clear : Clear (IsNoVector dims) (statement_of q.body)
+    body_clear : Clear (IsNoVector a set) (statement_of q.body)
     body_clear =
         let b = h.body in
         let publish : List Statement = Publish (last_claim first b.fetches k) ∷ [] in
         let lets = (names_own f.variables (bodies_from f.changes 0 (reductions_of f.changes) fs) placed h.extents k h.laid).lets in
         let nests = nests_clear _ _ _ _ 0 k.nests b.nests b.own b.nested (λ j w e. let none : 0 + j ≡ j = omega arith in ap (slice_get k.nests) none ∙ e) in
-        let inner = fetches_clear dims b.fetches (b.nests ++ publish) (joined_clear (IsNoVector dims) b.nests publish nests ((λ e. e), tt)) in
-        subst (Clear (IsNoVector dims)) (sym b.with.is)
-        (lets_clear dims k.head (block (Alloc 0 f.name (own_places (dimensions_of (text f) h.extents k)) ∷ with_fetches b.fetches (b.nests ++ publish))) lets ((λ e. e), inner))
+        let inner = fetches_clear a set b.fetches (b.nests ++ publish) (joined_clear (IsNoVector a set) b.nests publish nests ((λ e. e), tt)) in
+        subst (Clear (IsNoVector a set)) (sym b.with.is)
+        (lets_clear a set k.head (block (Alloc 0 f.name (own_places (dimensions_of (text f) h.extents k)) ∷ with_fetches b.fetches (b.nests ++ publish))) lets ((λ e. e), inner))
 
-  none_at : (line : ℕ) → IsNoVectorAt p c line → ⊥
+  none_at : (line : ℕ) → IsNoVectorAt a p c line → ⊥
   none_at line h =
       let x = from_map group_of l.plan.groups.items h.number h.group h.there in
       let q = x.0 in
@@ -342,8 +355,8 @@ module _ (a : Algorithm) (sch : Schedule) (l : Lowered) (well : IsAlgorithm a) (
       (subst (λ (i : ℕ). HasBody a entries i b.first_claim b.line me.stored q b.claims b.needs) counted b.body) in
       let clear = body_clear h.number q w.place w.function w.at there b.first_claim b.line b.claims b.needs body in
       let begun : Group → Here = λ u. start (line_told (group_line p h.number)) u in
-      let stands = subst (λ (u : Group). Inside (λ s here. (line_told here.line ≡ line) × IsNoVector (λ b. dimensions_in (allocated u.body b)) s) u.body (begun u)) x.2 h.stands in
-      none_inside (IsNoVector (λ b. dimensions_in (allocated (statement_of q.body) b))) line (statement_of q.body) clear (begun (group_of q)) stands
+      let stands = subst (λ (u : Group). Inside (λ s here. (line_told here.line ≡ line) × IsNoVector a (setting_of p c h.number u) s) u.body (begun u)) x.2 h.stands in
+      none_inside (IsNoVector a (setting_of p c h.number (group_of q))) line (statement_of q.body) clear (begun (group_of q)) stands
 
 pub fit : VectorsFit
 fit a s l well legal small regions groups all once line h = none_at a s l well legal small (regions all).0 all groups once line h

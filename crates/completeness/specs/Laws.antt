@@ -11,6 +11,8 @@ use Rattle.plan.specs.Claimed.{claim_of as claim_named}
 use Rattle.plan.specs.View.{plan_of}
 use Rattle.plan.specs.Lines.{certificate_line}
 use Rattle.plan.specs.Certificate.Certificate.{Claim, Certificate, certificate_of}
+use Rattle.plan.specs.Semantics.Actions.{Setting}
+use Rattle.plan.specs.Semantics.Setting.{setting_of}
 use Rattle.soundness.specs.Given.{outline_of}
 use Rattle.soundness.specs.Outline.Flaws.{Flaw as TextFlaw, first_of, line_told}
 use Rattle.soundness.specs.declared.outline.refusals.code.Flaw.{Flaw}
@@ -179,13 +181,13 @@ abbrev pub AreSplitOnce : List Split → Type 0
 AreSplitOnce cs = AllByRecursion (λ c. list_any (λ d. is_half d c.whole) cs ≡ false) cs
 
 -- the line is a loop that is marked as a vector, around something else than a store, or than one guard around that, which the loop's lanes pass in order
-abbrev pub IsNoVector : (ℕ → ℕ) → Statement → Type 0
-IsNoVector dimensions (For i x kind body) = fits_mark dimensions i kind body ≡ false
-IsNoVector dimensions _ = ⊥
+abbrev pub IsNoVector : Algorithm → Setting → Statement → Type 0
+IsNoVector a setting (For i x kind body) = fits_mark a setting i kind body ≡ false
+IsNoVector a setting _ = ⊥
 
 -- at the line such a loop stands inside a group (K13)
-abbrev pub IsNoVectorAt : Plan → Certificate → ℕ → Type 0
-IsNoVectorAt p c line = StandsIn p (λ n g t here. IsNoVector (outline_of p c n g).setting.dimensions t) line
+abbrev pub IsNoVectorAt : Algorithm → Plan → Certificate → ℕ → Type 0
+IsNoVectorAt a p c line = StandsIn p (λ n g t here. IsNoVector a (setting_of p c n g) t) line
 
 -- of the plan that is made of a schedule under which each stored function is a root function that is computed at no loop, and no loop that a split makes is split again:
 -- no vector loop is wrong
@@ -193,7 +195,7 @@ abbrev pub VectorsFit : Type 0
 VectorsFit =
     (a : Algorithm) (s : Schedule) (l : Lowered) → IsAlgorithm a → IsLegal a s → AreSmall a s → AreRegionsKept a s → AreGroupsMade a s l
     → are_whole (stored_functions a s) ≡ true → AllByRecursion (λ g. AreSplitOnce g.placed.cuts) (stored_functions a s) → (line : ℕ)
-    → ¬ IsNoVectorAt (plan_of l.plan) (certificate_of l.certificate) line
+    → ¬ IsNoVectorAt a (plan_of l.plan) (certificate_of l.certificate) line
 
 -- no form of a line `group` is out of the limits of forms (K3)
 abbrev pub GroupFormsAreWithin : Type 0

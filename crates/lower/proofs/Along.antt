@@ -47,11 +47,11 @@ use Rattle.lower.specs.Computed.{inner_called, inner_if, inner_at, inner_by, inn
 
 -- ---- splits
 
-pub rounded_in : (g : StoredText) (d : ℕ) (x : List ℕ) (r : Bool) → slice_get g.subject.variables d ≡ Some x → r ≡ list_any (is_rounding x) g.placed.cuts → r ≡ is_rounded g d
-rounded_in g d x r e h = h ∙ ap (λ (o : Option (List ℕ)). elim o [ Some y ↦ list_any (is_rounding y) g.placed.cuts | None ↦ false ]) (sym e)
+pub rounded_in : (g : StoredText) (d : ℕ) (x : List ℕ) (r : Bool) → slice_get g.subject.variables d ≡ Some x → r ≡ list_any (is_rounding g.placed.cuts x) g.placed.cuts → r ≡ is_rounded g d
+rounded_in g d x r e h = h ∙ ap (λ (o : Option (List ℕ)). elim o [ Some y ↦ list_any (is_rounding g.placed.cuts y) g.placed.cuts | None ↦ false ]) (sym e)
 
 pub no_variable : (g : StoredText) (d : ℕ) → slice_get g.subject.variables d ≡ None → false ≡ is_rounded g d
-no_variable g d e = ap (λ (o : Option (List ℕ)). elim o [ Some y ↦ list_any (is_rounding y) g.placed.cuts | None ↦ false ]) (sym e)
+no_variable g d e = ap (λ (o : Option (List ℕ)). elim o [ Some y ↦ list_any (is_rounding g.placed.cuts y) g.placed.cuts | None ↦ false ]) (sym e)
 
 pub split_in : (g : StoredText) (d : ℕ) (x : List ℕ) (r : Bool) → slice_get g.subject.variables d ≡ Some x → r ≡ list_any (λ c. same_name c.whole x) g.placed.cuts → r ≡ is_split g d
 split_in g d x r e h = h ∙ ap (λ (o : Option (List ℕ)). elim o [ Some y ↦ list_any (λ c. same_name c.whole y) g.placed.cuts | None ↦ false ]) (sym e)

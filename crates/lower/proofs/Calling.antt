@@ -1,6 +1,6 @@
 -- The calls of an expression, one after another.
 use Rattle.std.proofs.Common.{◌≡◌, List, [], ◌∷◌, ◌++◌, map, sym, ap, ◌∙◌, append_assoc}
-use Rattle.std.proofs.lemmas.List.{map-append}
+use Rattle.std.proofs.lemmas.List.{append-nil, map-append}
 use Rattle.std.specs.Prelude.{string_bytes}
 use Rattle.std.specs.Global.{Vec}
 use Rattle.tree.specs.declared.expr.Expr.{Expr}
@@ -17,6 +17,13 @@ behind_two xs ys zs = append_assoc xs ys zs
 
 pub behind_three : (ws xs ys zs : List Written) → ((ws ++ xs) ++ ys) ++ zs ≡ ws ++ (xs ++ (ys ++ zs))
 behind_three ws xs ys zs = append_assoc (ws ++ xs) ys zs ∙ append_assoc ws xs (ys ++ zs)
+
+-- the calls of an update behind others
+pub behind_change : (ws xs ys zs : List Written) → ((ws ++ xs) ++ ys) ++ zs ≡ ws ++ ((xs ++ ys) ++ zs)
+behind_change ws xs ys zs = behind_three ws xs ys zs ∙ ap (λ (l : List Written). ws ++ l) (sym (append_assoc xs ys zs))
+
+pub behind_none : (xs : List Written) → xs ≡ xs ++ []
+behind_none xs = sym (append-nil xs)
 
 -- a call, and then the calls in its indices
 pub call_added : (known pushed : List Made) (c : Made) (name : _) (at : Vec Expr) (s : _) (xs : List Expr)

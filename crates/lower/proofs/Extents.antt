@@ -9,13 +9,17 @@ use Rattle.std.proofs.lemmas.Bool.{false≢true}
 use Rattle.sched.specs.declared.numbers.Extent.{Extent}
 use Rattle.sched.specs.Standing.{◌>>=◌}
 use Rattle.lower.specs.declared.regions.Ends.{Ends}
-use Rattle.lower.specs.Stored.{FormulaText, StoredText, has_large}
+use Rattle.lower.specs.Lacking.{stored_calls}
+use Rattle.lower.specs.Stored.{FormulaText, StoredText, is_large, has_large}
 use Rattle.lower.specs.Regions.{LaidText, count_of, is_i32, are_within, extent_between, may_have, extent_of, region_of, add_output, add_users, unreached, reach_of, laid_over, laid_by}
 use Rattle.lower.specs.Regions.{laid_within, laid_functions}
 use Rattle.lower.specs.declared.legality.Totals.{Totals}
 use Rattle.sched.specs.declared.region_rule.RegionRule.{RegionRule}
-use Rattle.lower.specs.Faults.{no_totals, totals_with, fault_of, fault_by, or_later, first_laid, other_laid, fault_from, region_fault}
+use Rattle.sched.specs.declared.region_rule.RegionRule.TheVariants.{Unbounded}
+use Rattle.algo.specs.Scoping.Standing.{Written}
+use Rattle.lower.specs.Faults.{no_totals, totals_with, unless_left, fault_of, fault_by, or_later, first_laid, other_laid, fault_from, calls_of_large, region_fault}
 use Rattle.lower.specs.Owning.{IsExtent}
+use Rattle.lower.proofs.Gathering.{none_gathered}
 use Rattle.lower.proofs.Laying.{IsLaidOver, bound, same, laid_over_it}
 use Rattle.lower.proofs.Reached.{Grows, if_some, grows_users, grows_output, laid_found, region_length}
 
@@ -98,32 +102,31 @@ region_is a (s ∷ later) (suc n) g l at laid = region_is a later n g l at laid
 
 -- ---- regions that are found
 
-faults_leave : (a : Algorithm) (large : Bool) (t : Totals) (gs : List StoredText) (ls : List (Option LaidText)) → large ≡ false → fault_from a large t gs ls ≡ None →
+faults_leave : (a : Algorithm) (left : List Written) (t : Totals) (gs : List StoredText) (ls : List (Option LaidText)) → left ≡ [] → fault_from a left t gs ls ≡ None →
     (n : ℕ) (g : StoredText) (fs : List FormulaText) → slice_get gs n ≡ Some g → g.formulas ≡ Some fs → (l : LaidText) × (slice_get ls n ≡ Some (Some l))
-faults_leave a large t [] ls small h n g fs at is = absurd (cc at)
-faults_leave a large t (g ∷ gs) ls small h zero u fs at is =
+faults_leave a left t [] ls small h n g fs at is = absurd (cc at)
+faults_leave a left t (g ∷ gs) ls small h zero u fs at is =
     let same : g ≡ u = cc at in
-    here (first_laid ls) ls refl (ap (λ (o : Option (List FormulaText)). fault_by a large t g o (first_laid ls)) (sym (ap (λ (v : StoredText). v.formulas) same ∙ is)) ∙ none_first
-    (fault_of a large t g (first_laid ls)) h)
+    here (first_laid ls) ls refl (ap (λ (o : Option (List FormulaText)). fault_by a left t g o (first_laid ls)) (sym (ap (λ (v : StoredText). v.formulas) same ∙ is)) ∙ none_first
+    (fault_of a left t g (first_laid ls)) h)
   where
-    none_first : (o : Option RegionRule) → or_later g o (fault_from a large (totals_with t g (first_laid ls)) gs (other_laid ls)) ≡ None → o ≡ None
+    none_first : (o : Option RegionRule) → or_later g o (fault_from a left (totals_with t g (first_laid ls)) gs (other_laid ls)) ≡ None → o ≡ None
     none_first None q = refl
     none_first (Some r) q = absurd (cc q)
 
-    here : (o : Option LaidText) (ls : List (Option LaidText)) → first_laid ls ≡ o → fault_by a large t g (Some fs) o ≡ None → (l : LaidText) × (slice_get ls 0 ≡ Some (Some l))
-    here None ls e q = absurd (missing large small q)
+    here : (o : Option LaidText) (ls : List (Option LaidText)) → first_laid ls ≡ o → fault_by a left t g (Some fs) o ≡ None → (l : LaidText) × (slice_get ls 0 ≡ Some (Some l))
+    here None ls e q = absurd (none_there (ap (unless_left g) (sym small) ∙ q))
       where
-        missing : (b : Bool) → b ≡ false → fault_by a b t g (Some fs) None ≡ None → ⊥
-        missing true k q = cc k
-        missing false k q = cc q
+        none_there : Some Unbounded ≡ None → ⊥
+        none_there k = cc
     here (Some l) [] e q = absurd (cc e)
     here (Some l) (m ∷ ls) e q = (l, ap (λ (o : Option LaidText). Some o) e)
-faults_leave a large t (g ∷ gs) ls small h (suc n) u fs at is =
-    let rest = faults_leave a large (totals_with t g (first_laid ls)) gs (other_laid ls) small (none_later (fault_of a large t g (first_laid ls)) h) n u fs at is in
+faults_leave a left t (g ∷ gs) ls small h (suc n) u fs at is =
+    let rest = faults_leave a left (totals_with t g (first_laid ls)) gs (other_laid ls) small (none_later (fault_of a left t g (first_laid ls)) h) n u fs at is in
     (rest.0, behind ls rest.0 rest.1)
   where
-    none_later : (o : Option RegionRule) → or_later g o (fault_from a large (totals_with t g (first_laid ls)) gs (other_laid ls)) ≡ None →
-        fault_from a large (totals_with t g (first_laid ls)) gs (other_laid ls) ≡ None
+    none_later : (o : Option RegionRule) → or_later g o (fault_from a left (totals_with t g (first_laid ls)) gs (other_laid ls)) ≡ None →
+        fault_from a left (totals_with t g (first_laid ls)) gs (other_laid ls) ≡ None
     none_later None q = q
     none_later (Some r) q = absurd (cc q)
 
@@ -133,7 +136,7 @@ faults_leave a large t (g ∷ gs) ls small h (suc n) u fs at is =
 
 pub regions_there : (a : Algorithm) (gs : List StoredText) → has_large gs ≡ false → region_fault a gs ≡ None → (n : ℕ) (g : StoredText) (fs : List FormulaText) → slice_get gs n ≡ Some g →
     g.formulas ≡ Some fs → (l : LaidText) × (slice_get (laid_functions a gs) n ≡ Some (Some l))
-regions_there a gs small kept = faults_leave a (has_large gs) no_totals gs (laid_functions a gs) small kept
+regions_there a gs small kept = faults_leave a (calls_of_large a gs) no_totals gs (laid_functions a gs) (none_gathered (λ g. g.subject.name) (stored_calls a) is_large gs small) kept
 
 pub skeleton_is : (a : Algorithm) (gs : List StoredText) (n : ℕ) (g : StoredText) (l : LaidText) (fs : List FormulaText) → slice_get gs n ≡ Some g
     → slice_get (laid_functions a gs) n ≡ Some (Some l) → g.formulas ≡ Some fs → IsLaidOver g fs l

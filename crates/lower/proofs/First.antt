@@ -1,17 +1,18 @@
 -- The first function that breaks a rule by its region, where each is a whole function.
-use Rattle.std.proofs.Common.{◌≡◌, ℕ, zero, suc, ◌-◌, ◌<◌, Bool, true, List, [], ◌∷◌, length, map, take, drop, arith, Option, Some, None, sym, ap, ◌∙◌, inl}
+use Rattle.std.proofs.Common.{◌≡◌, ℕ, zero, suc, ◌-◌, ◌<◌, true, List, [], ◌∷◌, length, map, take, drop, arith, Option, Some, None, sym, ap, ◌∙◌, inl}
 use Rattle.std.specs.Prelude.{get_or}
 use Rattle.std.specs.Option.{option_map}
 use Rattle.std.specs.Global.{Vec}
 use Rattle.std.proofs.Math.Seq.{take-length}
 use Rattle.meaning.specs.Algorithm.{Algorithm}
+use Rattle.algo.specs.Scoping.Standing.{Written}
 use Rattle.sched.specs.declared.region_rule.RegionRule.{RegionRule}
 use Rattle.lower.specs.declared.legality.Totals.{Totals}
 use Rattle.lower.specs.declared.definitions.Formula.{Formula}
 use Rattle.lower.specs.declared.definitions.Stored.{Stored}
-use Rattle.lower.specs.Stored.{StoredText, has_large, formula_of, stored_of}
+use Rattle.lower.specs.Stored.{StoredText, formula_of, stored_of}
 use Rattle.lower.specs.Regions.{LaidText, laid_functions}
-use Rattle.lower.specs.Faults.{are_whole, or_later, fault_of, totals_by, totals_with, first_laid, other_laid, fault_from, no_totals, IsFirstOf, region_fault}
+use Rattle.lower.specs.Faults.{are_whole, or_later, fault_of, totals_by, totals_with, first_laid, other_laid, fault_from, no_totals, calls_of_large, IsFirstOf, region_fault}
 use Rattle.lower.specs.Refused.{IsFirst}
 
 abbrev pub Fault : Type 0
@@ -51,27 +52,27 @@ or_before g (Some r) p q e f h = h
 or_before g None p q e f h = f h
 
 -- what is told of the first ones is told of all
-before_is : (a : Algorithm) (large : Bool) (t : Totals) (n : ℕ) (gs : List StoredText) (ls : List (Option LaidText)) (e : Fault)
-    → Some e ≡ fault_from a large t (take n gs) ls → Some e ≡ fault_from a large t gs ls
-before_is a large t zero gs ls e h = cc
-before_is a large t (suc n) [] ls e h = h
-before_is a large t (suc n) (g ∷ gs) ls e h =
-    or_before g (fault_of a large t g (first_laid ls)) (fault_from a large (totals_with t g (first_laid ls)) (take n gs) (other_laid ls))
-    (fault_from a large (totals_with t g (first_laid ls)) gs (other_laid ls)) e
-    (before_is a large (totals_with t g (first_laid ls)) n gs (other_laid ls) e) h
+before_is : (a : Algorithm) (left : List Written) (t : Totals) (n : ℕ) (gs : List StoredText) (ls : List (Option LaidText)) (e : Fault)
+    → Some e ≡ fault_from a left t (take n gs) ls → Some e ≡ fault_from a left t gs ls
+before_is a left t zero gs ls e h = cc
+before_is a left t (suc n) [] ls e h = h
+before_is a left t (suc n) (g ∷ gs) ls e h =
+    or_before g (fault_of a left t g (first_laid ls)) (fault_from a left (totals_with t g (first_laid ls)) (take n gs) (other_laid ls))
+    (fault_from a left (totals_with t g (first_laid ls)) gs (other_laid ls)) e
+    (before_is a left (totals_with t g (first_laid ls)) n gs (other_laid ls) e) h
 
 -- the first of some of them is the first of all
 pub first_of : (a : Algorithm) (gs : List StoredText) (ls : List (Option LaidText)) (n : ℕ) (r : RegionRule) (x : List ℕ)
-    → IsFirstOf a (has_large gs) no_totals n gs ls (Some (r, x)) → (are_whole gs ≡ true → ls ≡ laid_functions a gs) → IsFirst a gs r x
+    → IsFirstOf a (calls_of_large a gs) no_totals n gs ls (Some (r, x)) → (are_whole gs ≡ true → ls ≡ laid_functions a gs) → IsFirst a gs r x
 first_of a gs ls n r x f laid w =
-    let told : Some (r, x) ≡ fault_from a (has_large gs) no_totals (take n gs) (laid_functions a gs) =
-    f w ∙ ap (λ (ms : List (Option LaidText)). fault_from a (has_large gs) no_totals (take n gs) ms) (laid w) in
-    inl (sym (before_is a (has_large gs) no_totals n gs (laid_functions a gs) (r, x) told))
+    let told : Some (r, x) ≡ fault_from a (calls_of_large a gs) no_totals (take n gs) (laid_functions a gs) =
+    f w ∙ ap (λ (ms : List (Option LaidText)). fault_from a (calls_of_large a gs) no_totals (take n gs) ms) (laid w) in
+    inl (sym (before_is a (calls_of_large a gs) no_totals n gs (laid_functions a gs) (r, x) told))
 
 -- none breaks one
 pub none_of : (a : Algorithm) (gs : List StoredText) (ls : List (Option LaidText)) (n : ℕ)
-    → IsFirstOf a (has_large gs) no_totals n gs ls None → (are_whole gs ≡ true → ls ≡ laid_functions a gs) → n ≡ length gs → are_whole gs ≡ true
+    → IsFirstOf a (calls_of_large a gs) no_totals n gs ls None → (are_whole gs ≡ true → ls ≡ laid_functions a gs) → n ≡ length gs → are_whole gs ≡ true
     → region_fault a gs ≡ None
 none_of a gs ls n f laid e w =
     let all : take n gs ≡ gs = ap (λ k. take k gs) e ∙ take-length gs in
-    sym (f w ∙ (λ i. fault_from a (has_large gs) no_totals (all i) (laid w i)))
+    sym (f w ∙ (λ i. fault_from a (calls_of_large a gs) no_totals (all i) (laid w i)))

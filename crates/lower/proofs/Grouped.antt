@@ -1,7 +1,6 @@
 -- Groups in whose loops functions are computed, as they are made one after another.
-use Rattle.std.proofs.Common.{◌≡◌, ℕ, ◌+◌, ◌-◌, ◌*◌, ◌<◌, Bool, true, false, List, [], ◌∷◌, ◌++◌, length, map, Option, Some, None, Result, Ok, Err, refl, sym, ap, subst, ◌∙◌, arith}
+use Rattle.std.proofs.Common.{◌≡◌, ℕ, ◌+◌, ◌-◌, ◌*◌, ◌<◌, true, false, List, [], ◌∷◌, ◌++◌, length, map, Option, Some, None, Result, Ok, Err, refl, sym, ap, subst, ◌∙◌, arith}
 use Rattle.std.specs.Global.{Vec}
-use Rattle.std.specs.Prelude.{IfOk}
 use Rattle.std.proofs.lemmas.List.{append_assoc, append-nil, length-append, length-map, map-append}
 use Rattle.lin.specs.declared.span.Span1.{Span1}
 use Rattle.meaning.specs.Algorithm.{Algorithm}
@@ -20,15 +19,14 @@ use Rattle.lower.specs.declared.group.Body.{Body}
 use Rattle.lower.specs.declared.inner.Inner.{Inner}
 use Rattle.lower.specs.declared.parties.Party.{Party}
 use Rattle.lower.specs.declared.whole.Fetch.{Fetch as CodeFetch}
-use Rattle.lower.specs.Loading.{Loads, load_of}
+use Rattle.lower.specs.Loading.{load_of}
 use Rattle.lower.specs.Fetches.{Entry, FetchText, loads_from, fetch_seen}
 use Rattle.lower.specs.Blocks.{dimensions_of, claimed_region, own_places}
 use Rattle.lower.specs.Bodies.{first_lines, IsBodyWith}
-use Rattle.lower.specs.Making.{IsBegun, FetchMade, with_first, BodyMade, GroupMade}
-use Rattle.lower.specs.Renamed.{Pairs}
+use Rattle.lower.specs.Making.{IsBegun, FetchMade, with_first, GroupMade}
 use Rattle.lower.specs.Placed.{PlacedText, SoFar, seat_of, so_far, group_owner, nests_over_grid, HasSome, numbered, picked, AreFetchedBy, with_fetched, begun, MayFetch, FetchesBy, inner_seen}
 use Rattle.lower.specs.Computed.{AreFound, AreAllFound, AreFoundIf, AreFoundIn}
-use Rattle.lower.specs.Groups.{root_of, party_of, inners_of, placed_of, line_behind, IsBodyBy, AreBodiesBy, MixedMade, GroupBy, GroupsBy, IsKnown, AreKnown, AreFoundOf, AreAllFoundIf, all_known, inside_of, inside_at, placed_in}
+use Rattle.lower.specs.Groups.{root_of, party_of, inners_of, placed_of, line_behind, AreBodiesBy, MixedMade, GroupBy, GroupsBy, IsKnown, AreKnown, AreFoundOf, AreAllFoundIf, all_known, inside_of, inside_at, placed_in}
 use Rattle.lower.specs.Homes.{AreAtHome, AreAllAtHome}
 
 -- ---- lists
@@ -40,10 +38,6 @@ behind_more old one new xs ys e h = h ∙ (ap (λ l. l ++ ys) e ∙ append_assoc
 none_inside : (inners : List Inner) → length inners < 1 → HasSome (map inner_seen inners) → ⊥
 none_inside [] none some = some
 none_inside (i ∷ is) none some = omega (arith, none)
-
-pub all_ok : {A E : Type 0} (r : Result A E) (P : A → Type 0) → ((v : A) → P v) → IfOk r P
-all_ok (Ok v) P f = f v
-all_ok (Err e) P f = tt
 
 -- no list with an element has none
 pub nothing_inside : {A : Type 0} (inners : List Inner) → length inners < 1 → HasSome (map inner_seen inners) → A

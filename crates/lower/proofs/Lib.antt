@@ -17,6 +17,7 @@ pub mod Extents
 pub mod Fetched
 pub mod First
 pub mod Firsts
+pub mod Gathering
 pub mod Gridded
 pub mod Grids
 pub mod Grouped
@@ -46,9 +47,11 @@ pub mod Settling
 pub mod Shown
 pub mod Sizes
 pub mod Stepping
+pub mod Stopped
 pub mod Stops
 pub mod Taken
 pub mod Told
+pub mod Unnumbered
 pub mod Unplanned
 pub mod Wholes
 pub mod Within

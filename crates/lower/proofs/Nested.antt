@@ -1,6 +1,6 @@
 -- The nests of a group in whose loops functions are computed, part by part.
-use Rattle.std.proofs.Common.{◌≡◌, ℕ, zero, suc, ◌+◌, ◌-◌, ◌≤◌, ◌<◌, Bool, true, false, List, [], ◌∷◌, ◌++◌, length, map, Option, Some, None, refl, sym, ap, subst, ◌∙◌, arith}
-use Rattle.std.specs.Prelude.{slice_get, string_bytes, if◌then◌else◌, take, drop, get_or}
+use Rattle.std.proofs.Common.{◌≡◌, ◌⊎◌, inl, inr, ℕ, zero, suc, ◌+◌, ◌-◌, ◌≤◌, ◌<◌, Bool, true, false, List, [], ◌∷◌, ◌++◌, length, map, Option, Some, None, Err, refl, sym, ap, subst, ◌∙◌, arith}
+use Rattle.std.specs.Prelude.{slice_get, string_bytes, if◌then◌else◌}
 use Rattle.std.specs.Option.{option_map}
 use Rattle.std.proofs.lemmas.Option.{slice_get-map}
 use Rattle.std.proofs.lemmas.List.{map-append, length-map}
@@ -13,12 +13,12 @@ use Rattle.plan.specs.declared.stmt.Places.{Places}
 use Rattle.plan.specs.declared.stmt.Coordinate.{Coordinate as CodeCoordinate}
 use Rattle.plan.specs.declared.certificate.cert.Claim.{Claim as CodeClaim}
 use Rattle.plan.specs.declared.certificate.cert.Window.{Window}
-use Rattle.plan.specs.Certificate.Certificate.{Claim, claim_of}
+use Rattle.plan.specs.Certificate.Certificate.{claim_of}
 use Rattle.plan.specs.Plan.{Index, At, Found, Coordinate, Statement, Seq, First, Alloc, Store, block}
 use Rattle.plan.specs.View.{coordinate_of, statement_of}
 use Rattle.plan.specs.Lists.{list_statements}
 use Rattle.sched.specs.declared.skeleton.Step.{Step}
-use Rattle.sched.specs.declared.skeleton.Step.TheVariants.{Named}
+use Rattle.sched.specs.declared.skeleton.Step.TheVariants.{Turns, Named, Tested}
 use Rattle.plan.specs.declared.stmt.Pick.TheVariants.{Min}
 use Rattle.lower.specs.declared.spots.Host.TheVariants.{Inner as Inside, Later as Anew}
 use Rattle.sched.specs.declared.nest.Nest.{Nest}
@@ -32,12 +32,16 @@ use Rattle.lower.specs.declared.definitions.Formula.{Formula}
 use Rattle.lower.specs.declared.group.Body.{Body}
 use Rattle.lower.specs.declared.renaming.Renaming.{Renaming}
 use Rattle.lower.specs.declared.parts.Seat.{Seat}
-use Rattle.lower.specs.Stored.{FormulaText, formula_of}
+use Rattle.lower.specs.Stored.{formula_of}
+use Rattle.lower.specs.declared.error.Stop.{Stop}
+use Rattle.lower.specs.declared.error.Stop.TheVariants as stop
+use Rattle.lower.specs.Limited.{Gives, TellsIf}
+use Rattle.lower.specs.Planned.{has_index, have_indices}
 use Rattle.lower.specs.Loading.{Loads, as_load, load_of}
 use Rattle.lower.specs.Around.{names_with}
 use Rattle.lower.specs.Bodies.{first_left, other_lefts, own_lines, IsIndex, AreCoordinates}
 use Rattle.lower.specs.Renamed.{Pairs, value_in, own_pairs, pair_of, places_renamed, region_renamed, span_renamed, step_renamed, coordinates_renamed}
-use Rattle.lower.specs.Placed.{LaterText, PlacedText, OwnerText, SoFar, Made, nothing, both, with_lines, with_symbol, with_name, with_loads, bound_by, around, index_by, coordinates_by, store_by, store_in, stored, with_claim, claimed, seated, same_spot, buffer_at, buffers_at, Nests, own_buffer, function_at, functions_at, numbers_down, all_at, spot, step_in, walk, walk_apart, nests_from, lets, owner, all_turns, held, fold_of, arm, arms, first_lets, first_and_later, sliding_turns, turns, computed, over_grid, group_nests, names_over, nests_over_grid, inner_seen, later_seen, seat_of, so_far}
+use Rattle.lower.specs.Placed.{LaterText, PlacedText, OwnerText, SoFar, Made, nothing, both, with_lines, with_symbol, with_name, with_loads, bound_by, around, index_by, coordinates_by, store_by, store_in, stored, with_claim, claimed, seated, let_count, same_spot, buffer_at, buffers_at, Nests, own_buffer, function_at, functions_at, numbers_down, all_at, spot, step_in, walk, walk_apart, nests_from, lets, owner, all_turns, held, fold_of, arm, arms, first_lets, first_and_later, sliding_turns, turns, computed, over_grid, group_nests, names_over, nests_over_grid, inner_seen, later_seen, seat_of, so_far}
 use Rattle.lower.proofs.Renames.{bound}
 
 -- ---- lists
@@ -65,6 +69,12 @@ joined a f xs ys one new e h =
 both_made : (a : Made) (f : SoFar → Made) (xs ys zs : List Stmt) (one new : SoFar) → a ≡ Some (list_statements xs, one) → f one ≡ Some (list_statements ys, new) → zs ≡ xs ++ ys
     → both a f ≡ Some (list_statements zs, new)
 both_made a f xs ys zs one new e h z = joined a f (list_statements xs) (list_statements ys) one new e h ∙ ap (λ l. Some (l, new)) (sym (all_statements xs ys zs z))
+
+none_first : (a : Made) (f : SoFar → Made) → a ≡ None → both a f ≡ None
+none_first a f e = ap (λ (p : Made). both p f) e
+
+none_then : (a : Made) (f : SoFar → Made) (xs : List Statement) (one : SoFar) → a ≡ Some (xs, one) → f one ≡ None → both a f ≡ None
+none_then a f xs one e h = bound a (λ x. f x.1 >>= λ y. Some (x.0 ++ y.0, y.1)) (xs, one) None e (ap (λ (p : Made). p >>= λ y. Some (xs ++ y.0, y.1)) h)
 
 found : (inners : List Inner) (n : ℕ) (i : Inner) (g : PlacedText → Made) (r : Made) → slice_get inners n ≡ Some i → g (inner_seen i) ≡ r → (slice_get (map inner_seen inners) n >>= g) ≡ r
 found inners n i g r e h = bound (slice_get (map inner_seen inners) n) g (inner_seen i) r (slice_get-map inner_seen inners n ∙ ap (option_map inner_seen) e) h
@@ -104,6 +114,36 @@ store_made o ls d fs f at xs cs e formulas is names are value =
     bound (slice_get o.formulas d) (λ g. store_by ls o.buffer ys d g at) (formula_of f) (Some (store e)) place
     (bound (coordinates_by ls ys at (map (option_map term_of) f.at.items)) (λ c. Some (Store o.buffer d c (with_calls (as_load ls) (term_of f.value)))) (map coordinate_of cs)
     (Some (store e)) (coordinates_are ls ys at (map (option_map term_of) f.at.items) (map coordinate_of cs) by_names) (ap (λ (t : Term). Some (store t)) (sym value)))
+
+-- there is no definition of this number
+pub store_unknown : (o : OwnerText) (ls : Loads) (d : ℕ) (fs : List Formula) (at : List (Option Form)) → o.formulas ≡ map formula_of fs → slice_get fs d ≡ None → store_in o ls d at ≡ None
+store_unknown o ls d fs at formulas none =
+    ap (λ r. r >>= λ f. store_by ls o.buffer (names_with o.function.variables o.function.changes d) d f at)
+    (ap (λ l. slice_get l d) formulas ∙ (slice_get-map formula_of fs d ∙ ap (option_map formula_of) none))
+
+coordinates_none : (ls : Loads) (xs : List (List ℕ)) (os : List (Option Form)) (lefts : List (Option Term)) → have_indices xs os lefts ≡ false → coordinates_by ls xs os lefts ≡ None
+coordinates_none ls xs [] lefts h = absurd cc
+coordinates_none ls [] (o ∷ os) lefts h = refl
+coordinates_none ls (x ∷ xs) (o ∷ os) lefts h = next o (first_left lefts) (coordinates_none ls xs os (other_lefts lefts)) h where
+  next : (o : Option Form) (i : Option Term) → (have_indices xs os (other_lefts lefts) ≡ false → coordinates_by ls xs os (other_lefts lefts) ≡ None)
+      → (if has_index o i then have_indices xs os (other_lefts lefts) else false) ≡ false
+      → (index_by ls o i >>= λ k. coordinates_by ls xs os (other_lefts lefts) >>= λ cs. Some (record { variable = x; index = k } ∷ cs)) ≡ None
+  next (Some f) i rest none = ap (λ r. r >>= λ cs. Some (record { variable = x; index = At f } ∷ cs)) (rest none)
+  next None (Some a) rest none = ap (λ r. r >>= λ cs. Some (record { variable = x; index = Found (with_calls (as_load ls) a) } ∷ cs)) (rest none)
+  next None None rest none = refl
+
+-- a coordinate has no index
+pub store_unindexed : {Y : Type 0} (X : Type 0) (e : Stop) (seen : Y → Statement) (o : OwnerText) (ls : Loads) (d : ℕ) (fs : List Formula) (f : Formula) (at : List (Option Form)) (xs : List (List ℕ))
+    → o.formulas ≡ map formula_of fs → slice_get fs d ≡ Some f → xs ≡ names_with o.function.variables o.function.changes d
+    → TellsIf {X = X} (Err e) (have_indices xs at (map (option_map term_of) f.at.items)) → Gives (Err e) seen (store_in o ls d at)
+store_unindexed X stop.Memory seen o ls d fs f at xs formulas is names told = tt
+store_unindexed X stop.Limit seen o ls d fs f at xs formulas is names told =
+    let place : slice_get o.formulas d ≡ Some (formula_of f) = ap (λ l. slice_get l d) formulas ∙ (slice_get-map formula_of fs d ∙ ap (option_map formula_of) is) in
+    let ys = names_with o.function.variables o.function.changes d in
+    let lefts = map (option_map term_of) f.at.items in
+    bound (slice_get o.formulas d) (λ g. store_by ls o.buffer ys d g at) (formula_of f) None place
+    (ap (λ r. r >>= λ c. Some (Store o.buffer d c (with_calls (as_load ls) (term_of f.value))))
+    (coordinates_none ls ys at lefts (subst (λ zs. have_indices zs at lefts ≡ false) names told)))
 
 pub stored_made : (o : OwnerText) (d : ℕ) (n : NestText) (m : Pairs) (old new : SoFar) (at : List (Option Form)) (v : List Stmt) (s : Stmt) → coordinates_renamed m n.at ≡ Some at
     → store_in o old.loads d at ≡ Some (statement_of s) → new ≡ with_lines 1 old → v ≡ s ∷ [] → stored o d n m old ≡ Some (list_statements v, new)
@@ -175,6 +215,31 @@ buffers_first inners s m count last i old one new xs ys zs is e f h z =
     (both_made (slice_get (map inner_seen inners) last >>= λ j. buffer_at s m last j old) (buffers_at (map inner_seen inners) s m (numbers_down last)) xs ys zs one new
     (found inners last i (λ j. buffer_at s m last j old) (Some (list_statements xs, one)) e f) h z)
 
+buffers_by : (inners : List Inner) (s : Spot) (m : Pairs) (count last : ℕ) (old : SoFar) (o : Option Inner) (r : Made) → count ≡ last + 1 → slice_get inners last ≡ o
+    → both (option_map inner_seen o >>= λ i. buffer_at s m last i old) (buffers_at (map inner_seen inners) s m (numbers_down last)) ≡ r
+    → buffers_at (map inner_seen inners) s m (numbers_down count) old ≡ r
+buffers_by inners s m count last old o r is e h =
+    let rest = buffers_at (map inner_seen inners) s m (numbers_down last) in
+    ap (λ (l : List ℕ). buffers_at (map inner_seen inners) s m l old) (sym (one_number count last is))
+    ∙ (ap (λ p. both (p >>= λ i. buffer_at s m last i old) rest) (slice_get-map inner_seen inners last ∙ ap (option_map inner_seen) e) ∙ h)
+
+-- there is no function of this number, it has no places, or a later one has none
+pub buffers_missing : (inners : List Inner) (s : Spot) (m : Pairs) (count last : ℕ) (old : SoFar) → count ≡ last + 1 → slice_get inners last ≡ None
+    → buffers_at (map inner_seen inners) s m (numbers_down count) old ≡ None
+buffers_missing inners s m count last old is none = buffers_by inners s m count last old None None is none refl
+
+pub buffers_stop : (inners : List Inner) (s : Spot) (m : Pairs) (count last : ℕ) (i : Inner) (old : SoFar) → count ≡ last + 1 → slice_get inners last ≡ Some i
+    → buffer_at s m last (inner_seen i) old ≡ None → buffers_at (map inner_seen inners) s m (numbers_down count) old ≡ None
+buffers_stop inners s m count last i old is e none =
+    buffers_by inners s m count last old (Some i) None is e (none_first (buffer_at s m last (inner_seen i) old) (buffers_at (map inner_seen inners) s m (numbers_down last)) none)
+
+pub buffers_stop_later : (inners : List Inner) (s : Spot) (m : Pairs) (count last : ℕ) (i : Inner) (old one : SoFar) (xs : List Statement) → count ≡ last + 1
+    → slice_get inners last ≡ Some i → buffer_at s m last (inner_seen i) old ≡ Some (xs, one) → buffers_at (map inner_seen inners) s m (numbers_down last) one ≡ None
+    → buffers_at (map inner_seen inners) s m (numbers_down count) old ≡ None
+buffers_stop_later inners s m count last i old one xs is e first none =
+    buffers_by inners s m count last old (Some i) None is e
+    (none_then (buffer_at s m last (inner_seen i) old) (buffers_at (map inner_seen inners) s m (numbers_down last)) xs one first none)
+
 -- the nests of functions are made so
 module _ (make : Nests) (inners : List Inner) (s : Spot) (m : Pairs) where
   pub functions_none : (count : ℕ) (p : SoFar) (zs : List Stmt) → count < 1 → zs ≡ [] → functions_at make (map inner_seen inners) s m (numbers_down count) p ≡ Some (list_statements zs, p)
@@ -189,6 +254,49 @@ module _ (make : Nests) (inners : List Inner) (s : Spot) (m : Pairs) where
       subst (λ (l : List ℕ). functions_at make (map inner_seen inners) s m l old ≡ Some (list_statements zs, new)) (one_number count last is)
       (both_made (slice_get (map inner_seen inners) last >>= λ j. function_at make s m last j old) (functions_at make (map inner_seen inners) s m (numbers_down last)) xs ys zs one new
       (found inners last i (λ j. function_at make s m last j old) (Some (list_statements xs, one)) e f) h z)
+
+  functions_by : (count last : ℕ) (old : SoFar) (o : Option Inner) (r : Made) → count ≡ last + 1 → slice_get inners last ≡ o
+      → both (option_map inner_seen o >>= λ i. function_at make s m last i old) (functions_at make (map inner_seen inners) s m (numbers_down last)) ≡ r
+      → functions_at make (map inner_seen inners) s m (numbers_down count) old ≡ r
+  functions_by count last old o r is e h =
+      let rest = functions_at make (map inner_seen inners) s m (numbers_down last) in
+      ap (λ (l : List ℕ). functions_at make (map inner_seen inners) s m l old) (sym (one_number count last is))
+      ∙ (ap (λ p. both (p >>= λ i. function_at make s m last i old) rest) (slice_get-map inner_seen inners last ∙ ap (option_map inner_seen) e) ∙ h)
+
+  -- there is no function of this number, it has no nests, or a later one has none
+  pub functions_missing : (count last : ℕ) (old : SoFar) → count ≡ last + 1 → slice_get inners last ≡ None → functions_at make (map inner_seen inners) s m (numbers_down count) old ≡ None
+  functions_missing count last old is none = functions_by count last old None None is none refl
+
+  pub functions_stop : (count last : ℕ) (i : Inner) (old : SoFar) → count ≡ last + 1 → slice_get inners last ≡ Some i → function_at make s m last (inner_seen i) old ≡ None
+      → functions_at make (map inner_seen inners) s m (numbers_down count) old ≡ None
+  functions_stop count last i old is e none =
+      functions_by count last old (Some i) None is e (none_first (function_at make s m last (inner_seen i) old) (functions_at make (map inner_seen inners) s m (numbers_down last)) none)
+
+  pub functions_stop_later : (count last : ℕ) (i : Inner) (old one : SoFar) (xs : List Statement) → count ≡ last + 1 → slice_get inners last ≡ Some i
+      → function_at make s m last (inner_seen i) old ≡ Some (xs, one) → functions_at make (map inner_seen inners) s m (numbers_down last) one ≡ None
+      → functions_at make (map inner_seen inners) s m (numbers_down count) old ≡ None
+  functions_stop_later count last i old one xs is e first none =
+      functions_by count last old (Some i) None is e
+      (none_then (function_at make s m last (inner_seen i) old) (functions_at make (map inner_seen inners) s m (numbers_down last)) xs one first none)
+
+  all_by : (count : ℕ) (old : SoFar) (r : Made) → count ≡ length inners
+      → both (buffers_at (map inner_seen inners) s m (numbers_down count) old) (functions_at make (map inner_seen inners) s m (numbers_down count)) ≡ r
+      → all_at make (map inner_seen inners) s m old ≡ r
+  all_by count old r e h =
+      let all : length (map inner_seen inners) ≡ count = length-map inners inner_seen ∙ sym e in
+      ap (λ (q : ℕ). both (buffers_at (map inner_seen inners) s m (numbers_down q) old) (functions_at make (map inner_seen inners) s m (numbers_down q))) all ∙ h
+
+  pub all_stop : (count : ℕ) (old : SoFar) → count ≡ length inners → buffers_at (map inner_seen inners) s m (numbers_down count) old ≡ None
+      → all_at make (map inner_seen inners) s m old ≡ None
+  all_stop count old e none =
+      all_by count old None e
+      (none_first (buffers_at (map inner_seen inners) s m (numbers_down count) old) (functions_at make (map inner_seen inners) s m (numbers_down count)) none)
+
+  pub all_stop_later : (count : ℕ) (old one : SoFar) (xs : List Statement) → count ≡ length inners → buffers_at (map inner_seen inners) s m (numbers_down count) old ≡ Some (xs, one)
+      → functions_at make (map inner_seen inners) s m (numbers_down count) one ≡ None → all_at make (map inner_seen inners) s m old ≡ None
+  all_stop_later count old one xs e first none =
+      all_by count old None e
+      (none_then (buffers_at (map inner_seen inners) s m (numbers_down count) old) (functions_at make (map inner_seen inners) s m (numbers_down count)) xs one first none)
 
   pub all_there : (count : ℕ) (old one new : SoFar) (xs ys zs : List Stmt) → count ≡ length inners
       → buffers_at (map inner_seen inners) s m (numbers_down count) old ≡ Some (list_statements xs, one)
@@ -209,30 +317,41 @@ pub function_here : (make : Nests) (s : Spot) (m : Pairs) (n : ℕ) (i : PlacedT
 function_here make s m n i old one new xs ys zs e f h z =
     ap (λ (b : Bool). if b then both (own_buffer s m n i old) (make n i m) else nothing old) e ∙ both_made (own_buffer s m n i old) (make n i m) xs ys zs one new f h z
 
+function_by : (make : Nests) (s : Spot) (m : Pairs) (n : ℕ) (i : PlacedText) (old : SoFar) (r : Made) → same_spot i.home s ≡ true
+    → both (own_buffer s m n i old) (make n i m) ≡ r → function_at make s m n i old ≡ r
+function_by make s m n i old r e h = ap (λ (b : Bool). if b then both (own_buffer s m n i old) (make n i m) else nothing old) e ∙ h
+
+pub function_stops : (make : Nests) (s : Spot) (m : Pairs) (n : ℕ) (i : PlacedText) (old : SoFar) → same_spot i.home s ≡ true → own_buffer s m n i old ≡ None
+    → function_at make s m n i old ≡ None
+function_stops make s m n i old e none = function_by make s m n i old None e (none_first (own_buffer s m n i old) (make n i m) none)
+
+pub function_stops_later : (make : Nests) (s : Spot) (m : Pairs) (n : ℕ) (i : PlacedText) (old one : SoFar) (xs : List Statement) → same_spot i.home s ≡ true
+    → own_buffer s m n i old ≡ Some (xs, one) → make n i m one ≡ None → function_at make s m n i old ≡ None
+function_stops_later make s m n i old one xs e first none =
+    function_by make s m n i old None e (none_then (own_buffer s m n i old) (make n i m) xs one first none)
+
 -- ---- nests
 
-pub step_made : (rest : Pairs → SoFar → Made) (s t : Step) (m names : Pairs) (k : ℕ) (old one two three new : SoFar) (xs zs : List Stmt) → names ≡ with_name (bound_by s) old.symbol m
-    → step_renamed names s ≡ Some t → one ≡ with_symbol (bound_by s) old → two ≡ with_lines 1 one → rest names two ≡ Some (list_statements xs, three) → k ≡ own_lines t - 1
-    → new ≡ with_lines k three → list_statements zs ≡ around t (list_statements xs) → step_in rest s m old ≡ Some (list_statements zs, new)
-step_made rest s t m names k old one two three new xs zs named renamed counted lined behind long ended made =
-    let begun : SoFar = with_lines 1 (with_symbol (bound_by s) old) in
-    let all : two ≡ begun = lined ∙ ap (with_lines 1) counted in
-    let at : step_renamed (with_name (bound_by s) old.symbol m) s ≡ Some t = subst (λ (l : Pairs). step_renamed l s ≡ Some t) named renamed in
-    let by_names : rest (with_name (bound_by s) old.symbol m) two ≡ Some (list_statements xs, three) = subst (λ (l : Pairs). rest l two ≡ Some (list_statements xs, three)) named behind in
-    let inside : rest (with_name (bound_by s) old.symbol m) begun ≡ Some (list_statements xs, three) =
-    subst (λ (p : SoFar). rest (with_name (bound_by s) old.symbol m) p ≡ Some (list_statements xs, three)) all by_names in
-    let last : new ≡ with_lines (own_lines t - 1) three = ended ∙ ap (λ (j : ℕ). with_lines j three) long in
-    bound (step_renamed (with_name (bound_by s) old.symbol m) s)
-    (λ u. rest (with_name (bound_by s) old.symbol m) begun >>= λ x. Some (around u x.0, with_lines (own_lines u - 1) x.1)) t (Some (list_statements zs, new)) at
-    (bound (rest (with_name (bound_by s) old.symbol m) begun) (λ x. Some (around t x.0, with_lines (own_lines t - 1) x.1)) (list_statements xs, three) (Some (list_statements zs, new)) inside
-    (λ j. Some (sym made j, sym last j)))
-
--- the same where the step's names, symbol and first line come together, and its end with its second line
 pub step_next : (rest : Pairs → SoFar → Made) (s t : Step) (m names : Pairs) (old two three new : SoFar) (xs zs : List Stmt) → names ≡ with_name (bound_by s) old.symbol m
-    → step_renamed names s ≡ Some t → two ≡ with_lines 1 (with_symbol (bound_by s) old) → rest names two ≡ Some (list_statements xs, three)
+    → step_renamed (with_name (bound_by s) old.symbol m) s ≡ Some t → two ≡ with_lines 1 (with_symbol (bound_by s) old) → rest names two ≡ Some (list_statements xs, three)
     → new ≡ with_lines (own_lines t - 1) three → list_statements zs ≡ around t (list_statements xs) → step_in rest s m old ≡ Some (list_statements zs, new)
 step_next rest s t m names old two three new xs zs named renamed begun behind ended made =
-    step_made rest s t m names (own_lines t - 1) old (with_symbol (bound_by s) old) two three new xs zs named renamed refl begun behind refl ended made
+    let all = with_name (bound_by s) old.symbol m in
+    let start = with_lines 1 (with_symbol (bound_by s) old) in
+    let by_names : rest all two ≡ Some (list_statements xs, three) = subst (λ (l : Pairs). rest l two ≡ Some (list_statements xs, three)) named behind in
+    let inside : rest all start ≡ Some (list_statements xs, three) = subst (λ (p : SoFar). rest all p ≡ Some (list_statements xs, three)) begun by_names in
+    bound (step_renamed all s) (λ u. rest all start >>= λ x. Some (around u x.0, with_lines (own_lines u - 1) x.1)) t (Some (list_statements zs, new)) renamed
+    (bound (rest all start) (λ x. Some (around t x.0, with_lines (own_lines t - 1) x.1)) (list_statements xs, three) (Some (list_statements zs, new)) inside
+    (λ j. Some (sym made j, sym ended j)))
+
+pub step_stops : (rest : Pairs → SoFar → Made) (s t : Step) (m names : Pairs) (old two : SoFar) → names ≡ with_name (bound_by s) old.symbol m
+    → step_renamed (with_name (bound_by s) old.symbol m) s ≡ Some t → two ≡ with_lines 1 (with_symbol (bound_by s) old) → rest names two ≡ None → step_in rest s m old ≡ None
+step_stops rest s t m names old two named renamed begun none =
+    let all = with_name (bound_by s) old.symbol m in
+    let start = with_lines 1 (with_symbol (bound_by s) old) in
+    let by_names : rest all two ≡ None = subst (λ (l : Pairs). rest l two ≡ None) named none in
+    bound (step_renamed all s) (λ u. rest all start >>= λ x. Some (around u x.0, with_lines (own_lines u - 1) x.1)) t None renamed
+    (ap (λ r. r >>= λ x. Some (around t x.0, with_lines (own_lines t - 1) x.1)) (subst (λ (p : SoFar). rest all p ≡ None) begun by_names))
 
 module _ (make : Nests) (is : List PlacedText) (o : OwnerText) (d : ℕ) (n : NestText) where
   pub walk_end : (depth : ℕ) (at : Spot) (m : Pairs) (old one new : SoFar) (xs ys zs : List Stmt) → at ≡ spot o.host d depth → all_at make is at m old ≡ Some (list_statements xs, one)
@@ -247,6 +366,42 @@ module _ (make : Nests) (is : List PlacedText) (o : OwnerText) (d : ℕ) (n : Ne
   walk_on depth at s steps m old one new xs ys zs e f h z =
       let here : all_at make is (spot o.host d depth) m old ≡ Some (list_statements xs, one) = subst (λ (p : Spot). all_at make is p m old ≡ Some (list_statements xs, one)) e f in
       both_made (all_at make is (spot o.host d depth) m old) (step_in (walk make is o d n (depth + 1) steps) s m) xs ys zs one new here h z
+
+  pub walk_stops : (depth : ℕ) (at : Spot) (steps : List Step) (m : Pairs) (old : SoFar) → at ≡ spot o.host d depth → all_at make is at m old ≡ None
+      → walk make is o d n depth steps m old ≡ None
+  walk_stops depth at [] m old e none =
+      none_first (all_at make is (spot o.host d depth) m old) (stored o d n m) (subst (λ (s : Spot). all_at make is s m old ≡ None) e none)
+  walk_stops depth at (s ∷ steps) m old e none =
+      none_first (all_at make is (spot o.host d depth) m old) (step_in (walk make is o d n (depth + 1) steps) s m) (subst (λ (p : Spot). all_at make is p m old ≡ None) e none)
+
+  pub walk_end_stops : (depth : ℕ) (at : Spot) (m : Pairs) (old one : SoFar) (xs : List Statement) → at ≡ spot o.host d depth → all_at make is at m old ≡ Some (xs, one)
+      → stored o d n m one ≡ None → walk make is o d n depth [] m old ≡ None
+  walk_end_stops depth at m old one xs e f none =
+      none_then (all_at make is (spot o.host d depth) m old) (stored o d n m) xs one (subst (λ (s : Spot). all_at make is s m old ≡ Some (xs, one)) e f) none
+
+  pub walk_on_stops : (depth : ℕ) (at : Spot) (s : Step) (steps : List Step) (m : Pairs) (old one : SoFar) (xs : List Statement) → at ≡ spot o.host d depth
+      → all_at make is at m old ≡ Some (xs, one) → step_in (walk make is o d n (depth + 1) steps) s m one ≡ None → walk make is o d n depth (s ∷ steps) m old ≡ None
+  walk_on_stops depth at s steps m old one xs e f none =
+      none_then (all_at make is (spot o.host d depth) m old) (step_in (walk make is o d n (depth + 1) steps) s m) xs one
+      (subst (λ (p : Spot). all_at make is p m old ≡ Some (xs, one)) e f) none
+
+  pub apart_stops : (depth : ℕ) (steps : List Step) (m : Pairs) (old : SoFar) → walk make is o d n depth steps m old ≡ None → walk_apart make is o d n depth steps m old ≡ None
+  apart_stops depth steps m old e = ap (λ (p : Made). p >>= λ x. Some (x.0, with_loads old.loads x.1)) e
+
+  pub nests_stop : (ns : List NestText) (m : Pairs) (old : SoFar) → walk_apart make is o d n 0 n.steps m old ≡ None → nests_from make is o d (n ∷ ns) m old ≡ None
+  nests_stop ns m old none = none_first (walk_apart make is o d n 0 n.steps m old) (λ q. claimed o d m q >>= nests_from make is o (d + 1) ns m) none
+
+  pub nests_unclaimed : (ns : List NestText) (m : Pairs) (old one : SoFar) (xs : List Statement) → walk_apart make is o d n 0 n.steps m old ≡ Some (xs, one) → claimed o d m one ≡ None
+      → nests_from make is o d (n ∷ ns) m old ≡ None
+  nests_unclaimed ns m old one xs e none =
+      none_then (walk_apart make is o d n 0 n.steps m old) (λ q. claimed o d m q >>= nests_from make is o (d + 1) ns m) xs one e
+      (ap (λ (p : Option SoFar). p >>= nests_from make is o (d + 1) ns m) none)
+
+  pub nests_stop_later : (ns : List NestText) (m : Pairs) (next : ℕ) (old one two : SoFar) (xs : List Statement) → walk_apart make is o d n 0 n.steps m old ≡ Some (xs, one)
+      → claimed o d m one ≡ Some two → next ≡ d + 1 → nests_from make is o next ns m two ≡ None → nests_from make is o d (n ∷ ns) m old ≡ None
+  nests_stop_later ns m next old one two xs e c i none =
+      none_then (walk_apart make is o d n 0 n.steps m old) (λ q. claimed o d m q >>= nests_from make is o (d + 1) ns m) xs one e
+      (bound (claimed o d m one) (nests_from make is o (d + 1) ns m) two None c (subst (λ (k : ℕ). nests_from make is o k ns m two ≡ None) i none))
 
   pub apart_made : (depth : ℕ) (steps : List Step) (m : Pairs) (old one new : SoFar) (xs : List Stmt) → walk make is o d n depth steps m old ≡ Some (list_statements xs, one)
       → new ≡ with_loads old.loads one → walk_apart make is o d n depth steps m old ≡ Some (list_statements xs, new)
@@ -264,25 +419,43 @@ module _ (make : Nests) (is : List PlacedText) (o : OwnerText) (d : ℕ) (n : Ne
 
 -- ---- functions inside
 
-pub let_first : (s t : Step) (steps : List Step) (m names behind : Pairs) (old one two new : SoFar) (xs zs : List Stmt) → names ≡ with_name (bound_by s) old.symbol m
-    → step_renamed names s ≡ Some t → one ≡ with_symbol (bound_by s) old → two ≡ with_lines 1 one → lets steps names two ≡ Some (list_statements xs, (behind, new))
-    → list_statements zs ≡ around t (list_statements xs) → lets (s ∷ steps) m old ≡ Some (list_statements zs, (behind, new))
-let_first s t steps m names behind old one two new xs zs named renamed counted lined others made =
-    let begun : SoFar = with_lines 1 (with_symbol (bound_by s) old) in
-    let next : Pairs = with_name (bound_by s) old.symbol m in
-    let all : two ≡ begun = lined ∙ ap (with_lines 1) counted in
-    let at : step_renamed next s ≡ Some t = subst (λ (l : Pairs). step_renamed l s ≡ Some t) named renamed in
-    let by_names : lets steps next two ≡ Some (list_statements xs, (behind, new)) = subst (λ (l : Pairs). lets steps l two ≡ Some (list_statements xs, (behind, new))) named others in
-    let inside : lets steps next begun ≡ Some (list_statements xs, (behind, new)) = subst (λ (p : SoFar). lets steps next p ≡ Some (list_statements xs, (behind, new))) all by_names in
-    bound (step_renamed next s) (λ u. lets steps next begun >>= λ x. Some (around u x.0, x.1)) t (Some (list_statements zs, (behind, new))) at
-    (bound (lets steps next begun) (λ x. Some (around t x.0, x.1)) (list_statements xs, (behind, new)) (Some (list_statements zs, (behind, new))) inside
+pub let_next : (s t : Step) (steps : List Step) (m names behind : Pairs) (old two new : SoFar) (xs zs : List Stmt) → names ≡ with_name (bound_by s) old.symbol m
+    → step_renamed (with_name (bound_by s) old.symbol m) s ≡ Some t → two ≡ with_lines 1 (with_symbol (bound_by s) old)
+    → lets steps names two ≡ Some (list_statements xs, (behind, new)) → list_statements zs ≡ around t (list_statements xs)
+    → lets (s ∷ steps) m old ≡ Some (list_statements zs, (behind, new))
+let_next s t steps m names behind old two new xs zs named renamed begun others made =
+    let all = with_name (bound_by s) old.symbol m in
+    let start = with_lines 1 (with_symbol (bound_by s) old) in
+    let by_names : lets steps all two ≡ Some (list_statements xs, (behind, new)) = subst (λ (l : Pairs). lets steps l two ≡ Some (list_statements xs, (behind, new))) named others in
+    let inside : lets steps all start ≡ Some (list_statements xs, (behind, new)) = subst (λ (p : SoFar). lets steps all p ≡ Some (list_statements xs, (behind, new))) begun by_names in
+    bound (step_renamed all s) (λ u. lets steps all start >>= λ x. Some (around u x.0, x.1)) t (Some (list_statements zs, (behind, new))) renamed
+    (bound (lets steps all start) (λ x. Some (around t x.0, x.1)) (list_statements xs, (behind, new)) (Some (list_statements zs, (behind, new))) inside
     (ap (λ (l : List Statement). Some (l, (behind, new))) (sym made)))
 
-pub let_next : (s t : Step) (steps : List Step) (m names behind : Pairs) (old two new : SoFar) (xs zs : List Stmt) → names ≡ with_name (bound_by s) old.symbol m
-    → step_renamed names s ≡ Some t → two ≡ with_lines 1 (with_symbol (bound_by s) old) → lets steps names two ≡ Some (list_statements xs, (behind, new))
-    → list_statements zs ≡ around t (list_statements xs) → lets (s ∷ steps) m old ≡ Some (list_statements zs, (behind, new))
-let_next s t steps m names behind old two new xs zs named renamed begun others made =
-    let_first s t steps m names behind old (with_symbol (bound_by s) old) two new xs zs named renamed refl begun others made
+pub let_stops : (s t : Step) (steps : List Step) (m names : Pairs) (old two : SoFar) → names ≡ with_name (bound_by s) old.symbol m
+    → step_renamed (with_name (bound_by s) old.symbol m) s ≡ Some t → two ≡ with_lines 1 (with_symbol (bound_by s) old) → lets steps names two ≡ None → lets (s ∷ steps) m old ≡ None
+let_stops s t steps m names old two named renamed begun none =
+    let all = with_name (bound_by s) old.symbol m in
+    let start = with_lines 1 (with_symbol (bound_by s) old) in
+    let by_names : lets steps all two ≡ None = subst (λ (l : Pairs). lets steps l two ≡ None) named none in
+    bound (step_renamed all s) (λ u. lets steps all start >>= λ x. Some (around u x.0, x.1)) t None renamed
+    (ap (λ r. r >>= λ x. Some (around t x.0, x.1)) (subst (λ (p : SoFar). lets steps all p ≡ None) begun by_names))
+
+-- no more lets than steps
+lets_fit : (steps : List Step) → let_count steps ≤ length steps
+lets_fit [] = omega (arith)
+lets_fit (Named i pick forms ∷ steps) = let rest = lets_fit steps in omega (arith, rest)
+lets_fit (Turns i x kind ∷ steps) = omega (arith)
+lets_fit (Tested low high ∷ steps) = omega (arith)
+
+-- they can be taken
+pub lets_there : {A : Type 0} (steps : List Step) (n : ℕ) → n ≡ let_count steps → (n < 0) ⊎ (length steps < n) → A
+lets_there steps n is (inl h) = absurd (omega (arith, h))
+lets_there steps n is (inr h) = let fit = lets_fit steps in absurd (omega (arith, fit, is, h))
+
+pub lets_behind : {A : Type 0} (steps : List Step) (n : ℕ) → n ≡ let_count steps → (length steps < n) ⊎ (length steps < length steps) → A
+lets_behind steps n is (inl h) = let fit = lets_fit steps in absurd (omega (arith, fit, is, h))
+lets_behind steps n is (inr h) = absurd (omega (arith, h))
 
 module _ (make : Nests) (is : List PlacedText) where
   pub all_made : (b n : ℕ) (i : PlacedText) (o : OwnerText) (m names : Pairs) (old one new : SoFar) (xs ys zs : List Stmt) → lets i.lets m old ≡ Some (list_statements xs, (names, one))
@@ -295,6 +468,27 @@ module _ (make : Nests) (is : List PlacedText) where
       (Some (list_statements zs, new)) e
       (bound (nests_from make is (owner (Inside n) i b) 0 i.nests names one) (λ y. Some (list_statements xs ++ y.0, y.1)) (list_statements ys, new) (Some (list_statements zs, new)) others
       (ap (λ (l : List Statement). Some (l, new)) (sym (all_statements xs ys zs z))))
+
+  pub all_stops : (b n : ℕ) (i : PlacedText) (m : Pairs) (old : SoFar) → lets i.lets m old ≡ None → all_turns make is b n i m old ≡ None
+  all_stops b n i m old none =
+      ap (λ r. r >>= λ x. nests_from make is (owner (Inside n) i b) 0 i.nests x.1.0 x.1.1 >>= λ y. Some (x.0 ++ y.0, y.1)) none
+
+  pub all_stops_later : (b n : ℕ) (i : PlacedText) (o : OwnerText) (m names : Pairs) (old one : SoFar) (xs : List Statement) → lets i.lets m old ≡ Some (xs, (names, one))
+      → o ≡ owner (Inside n) i b → nests_from make is o 0 i.nests names one ≡ None → all_turns make is b n i m old ≡ None
+  all_stops_later b n i o m names old one xs e w none =
+      bound (lets i.lets m old) (λ x. nests_from make is (owner (Inside n) i b) 0 i.nests x.1.0 x.1.1 >>= λ y. Some (x.0 ++ y.0, y.1)) (xs, (names, one)) None e
+      (ap (λ (p : Made). p >>= λ y. Some (xs ++ y.0, y.1)) (subst (λ (u : OwnerText). nests_from make is u 0 i.nests names one ≡ None) w none))
+
+  pub arms_stop : (o w : OwnerText) (all anew : NestText) (s : ℕ) (whole names : Pairs) (old : SoFar) → arm make is o all whole old ≡ None
+      → arms make is o w all anew s whole names old ≡ None
+  arms_stop o w all anew s whole names old none =
+      ap (λ (p : Made). p >>= λ x. arm make is w anew names x.1 >>= λ y. Some (First s (Seq (block x.0)) (Seq (block y.0)) ∷ [], with_lines 1 y.1)) none
+
+  pub arms_stop_later : (o w : OwnerText) (all anew : NestText) (s : ℕ) (whole names : Pairs) (old one : SoFar) (xs : List Statement) → arm make is o all whole old ≡ Some (xs, one)
+      → arm make is w anew names one ≡ None → arms make is o w all anew s whole names old ≡ None
+  arms_stop_later o w all anew s whole names old one xs e none =
+      bound (arm make is o all whole old) (λ x. arm make is w anew names x.1 >>= λ y. Some (First s (Seq (block x.0)) (Seq (block y.0)) ∷ [], with_lines 1 y.1)) (xs, one) None e
+      (ap (λ (p : Made). p >>= λ y. Some (First s (Seq (block xs)) (Seq (block y.0)) ∷ [], with_lines 1 y.1)) none)
 
   pub arms_made : (o w : OwnerText) (all anew : NestText) (s : ℕ) (whole names : Pairs) (old one two new : SoFar) (xs ys zs : List Stmt) (first later t : Stmt)
       → arm make is o all whole old ≡ Some (list_statements xs, one) → arm make is w anew names one ≡ Some (list_statements ys, two) → new ≡ with_lines 1 two
@@ -392,15 +586,27 @@ computed_made deep below is n b i m old r e s h =
     let next : deep ≡ suc below = omega (arith, e) in
     ap (λ (k : ℕ). computed k is n i m old) next ∙ bound (value_in old.seats n) (λ c. turns (computed below is) is c n i i.later m old) b r s h
 
-pub computed_all : (deep below : ℕ) (is : List PlacedText) (n b : ℕ) (i : PlacedText) (m : Pairs) (old new : SoFar) (xs : List Statement) → deep ≡ below + 1 → value_in old.seats n ≡ Some b
-    → i.later ≡ None → all_turns (computed below is) is b n i m old ≡ Some (xs, new) → computed deep is n i m old ≡ Some (xs, new)
-computed_all deep below is n b i m old new xs e s none h =
-    computed_made deep below is n b i m old (Some (xs, new)) e s (ap (λ (o : Option LaterText). turns (computed below is) is b n i o m old) none ∙ h)
+pub computed_all : (deep below : ℕ) (is : List PlacedText) (n b : ℕ) (i : PlacedText) (m : Pairs) (old : SoFar) → deep ≡ below + 1 → value_in old.seats n ≡ Some b
+    → i.later ≡ None → all_turns (computed below is) is b n i m old ≡ computed deep is n i m old
+computed_all deep below is n b i m old e s none =
+    sym (computed_made deep below is n b i m old (all_turns (computed below is) is b n i m old) e s
+    (ap (λ (o : Option LaterText). turns (computed below is) is b n i o m old) none))
 
-pub computed_sliding : (deep below : ℕ) (is : List PlacedText) (n b : ℕ) (i : PlacedText) (l : LaterText) (m : Pairs) (old new : SoFar) (xs : List Statement) → deep ≡ below + 1
-    → value_in old.seats n ≡ Some b → i.later ≡ Some l → sliding_turns (computed below is) is b n i l m old ≡ Some (xs, new) → computed deep is n i m old ≡ Some (xs, new)
-computed_sliding deep below is n b i l m old new xs e s some h =
-    computed_made deep below is n b i m old (Some (xs, new)) e s (ap (λ (o : Option LaterText). turns (computed below is) is b n i o m old) some ∙ h)
+pub computed_sliding : (deep below : ℕ) (is : List PlacedText) (n b : ℕ) (i : PlacedText) (l : LaterText) (m : Pairs) (old : SoFar) → deep ≡ below + 1
+    → value_in old.seats n ≡ Some b → i.later ≡ Some l → sliding_turns (computed below is) is b n i l m old ≡ computed deep is n i m old
+computed_sliding deep below is n b i l m old e s some =
+    sym (computed_made deep below is n b i m old (sliding_turns (computed below is) is b n i l m old) e s
+    (ap (λ (o : Option LaterText). turns (computed below is) is b n i o m old) some))
+
+pub computed_too_deep : (deep : ℕ) (is : List PlacedText) (n : ℕ) (i : PlacedText) (m : Pairs) (old : SoFar) → deep < 1 → computed deep is n i m old ≡ None
+computed_too_deep zero is n i m old h = refl
+computed_too_deep (suc deep) is n i m old h = absurd (omega (arith, h))
+
+pub computed_unseated : (deep below : ℕ) (is : List PlacedText) (n : ℕ) (i : PlacedText) (m : Pairs) (old : SoFar) → deep ≡ below + 1 → value_in old.seats n ≡ None
+    → computed deep is n i m old ≡ None
+computed_unseated deep below is n i m old e none =
+    let next : deep ≡ suc below = omega (arith, e) in
+    ap (λ (k : ℕ). computed k is n i m old) next ∙ ap (λ (r : Option ℕ). r >>= λ c. turns (computed below is) is c n i i.later m old) none
 
 -- ---- the group's own function
 
@@ -418,3 +624,26 @@ group_made inners deep count o k names old one new xs ys zs e many own f h z =
     let by_names : group_nests deep is o k.nests (names_over k) old ≡ Some (list_statements zs, new) =
     subst (λ (m : Pairs). group_nests deep is o k.nests m old ≡ Some (list_statements zs, new)) named made in
     subst (λ (d : ℕ). group_nests d is o k.nests (names_over k) old ≡ Some (list_statements zs, new)) all by_names
+
+module _ (inners : List Inner) (deep count : ℕ) (o : OwnerText) (k : SkeletonText) (names : Pairs) (old : SoFar) where
+  group_by : (r : Made) → deep ≡ length inners → count ≡ length k.grid + length k.head → names ≡ own_pairs count
+      → both (all_at (computed deep (map inner_seen inners)) (map inner_seen inners) over_grid names old)
+      (nests_from (computed deep (map inner_seen inners)) (map inner_seen inners) o 0 k.nests names) ≡ r → nests_over_grid (map inner_seen inners) o k old ≡ r
+  group_by r e many own h =
+      let is = map inner_seen inners in
+      let all : length is ≡ deep = length-map inners inner_seen ∙ sym e in
+      let named : names_over k ≡ names = sym (own ∙ ap own_pairs many) in
+      (λ j. group_nests (all j) is o k.nests (named j) old) ∙ h
+
+  pub group_stops : deep ≡ length inners → count ≡ length k.grid + length k.head → names ≡ own_pairs count
+      → all_at (computed deep (map inner_seen inners)) (map inner_seen inners) over_grid names old ≡ None → nests_over_grid (map inner_seen inners) o k old ≡ None
+  group_stops e many own none =
+      group_by None e many own (none_first (all_at (computed deep (map inner_seen inners)) (map inner_seen inners) over_grid names old)
+      (nests_from (computed deep (map inner_seen inners)) (map inner_seen inners) o 0 k.nests names) none)
+
+  pub group_stops_later : (one : SoFar) (xs : List Statement) → deep ≡ length inners → count ≡ length k.grid + length k.head → names ≡ own_pairs count
+      → all_at (computed deep (map inner_seen inners)) (map inner_seen inners) over_grid names old ≡ Some (xs, one)
+      → nests_from (computed deep (map inner_seen inners)) (map inner_seen inners) o 0 k.nests names one ≡ None → nests_over_grid (map inner_seen inners) o k old ≡ None
+  group_stops_later one xs e many own first none =
+      group_by None e many own (none_then (all_at (computed deep (map inner_seen inners)) (map inner_seen inners) over_grid names old)
+      (nests_from (computed deep (map inner_seen inners)) (map inner_seen inners) o 0 k.nests names) xs one first none)

@@ -26,7 +26,7 @@ use Rattle.lower.specs.Stored.{FormulaText, StoredText, calls_in, has_large}
 use Rattle.lower.specs.Around.{AroundText, interval_in, head_scope}
 use Rattle.lower.specs.Regions.{LaidText, counts, laid_functions}
 use Rattle.lower.specs.Bounded.{whole, is_on_input, is_place_bounded, is_in_region, is_call_bounded, are_bounded, is_definition_bounded, is_bounded, is_root_bounded}
-use Rattle.lower.specs.Faults.{no_totals, with_laid, pass_limits, is_shifted_little, unless_bounded, fault_within, fault_by, fault_of, totals_with, or_later, fault_from, region_fault}
+use Rattle.lower.specs.Faults.{no_totals, with_laid, pass_limits, is_shifted_little, unless_bounded, fault_within, fault_by, fault_of, totals_with, or_later, fault_from, calls_of_large, region_fault}
 use Rattle.lower.specs.Held.{AreTyped, CallsAt, InputHoldsCalls, IsLaid, RegionsHoldOwnCalls}
 use Rattle.lower.proofs.Laying.{bound, same}
 
@@ -55,28 +55,28 @@ bounded_within a g fs t l h = by (is_shifted_little g l) (pass_limits t) h
     by false true q = absurd (no_rule TooMuch q)
     by false false q = is_shown (is_root_bounded a g fs l) q
 
-bounded_of : (a : Algorithm) (large : Bool) (t : Totals) (g : StoredText) (fs : List FormulaText) (l : LaidText) (o : Option (List FormulaText)) → o ≡ Some fs
-    → fault_by a large t g o (Some l) ≡ None → is_root_bounded a g fs l ≡ Some true
-bounded_of a large t g fs l o is h =
-    bounded_within a g fs (with_laid t l) l (subst (λ (q : Option (List FormulaText)). fault_by a large t g q (Some l) ≡ None) is h)
+bounded_of : (a : Algorithm) (left : List Written) (t : Totals) (g : StoredText) (fs : List FormulaText) (l : LaidText) (o : Option (List FormulaText)) → o ≡ Some fs
+    → fault_by a left t g o (Some l) ≡ None → is_root_bounded a g fs l ≡ Some true
+bounded_of a left t g fs l o is h =
+    bounded_within a g fs (with_laid t l) l (subst (λ (q : Option (List FormulaText)). fault_by a left t g q (Some l) ≡ None) is h)
 
-bounded_at : (a : Algorithm) (large : Bool) (t : Totals) (gs : List StoredText) (ls : List (Option LaidText)) (i : ℕ) (u : StoredText) (m : LaidText) (fs : List FormulaText)
-    → slice_get gs i ≡ Some u → slice_get ls i ≡ Some (Some m) → u.formulas ≡ Some fs → fault_from a large t gs ls ≡ None → is_root_bounded a u fs m ≡ Some true
-bounded_at a large t [] ls i u m fs is laid defined h = absurd (no is)
+bounded_at : (a : Algorithm) (left : List Written) (t : Totals) (gs : List StoredText) (ls : List (Option LaidText)) (i : ℕ) (u : StoredText) (m : LaidText) (fs : List FormulaText)
+    → slice_get gs i ≡ Some u → slice_get ls i ≡ Some (Some m) → u.formulas ≡ Some fs → fault_from a left t gs ls ≡ None → is_root_bounded a u fs m ≡ Some true
+bounded_at a left t [] ls i u m fs is laid defined h = absurd (no is)
   where
     no : None ≡ Some u → ⊥
     no q = cc
-bounded_at a large t (g ∷ gs) [] i u m fs is laid defined h = absurd (no laid)
+bounded_at a left t (g ∷ gs) [] i u m fs is laid defined h = absurd (no laid)
   where
     no : None ≡ Some (Some m) → ⊥
     no q = cc
-bounded_at a large t (g ∷ gs) (l ∷ ls) zero u m fs is laid defined h =
-    let here = (here_or_later g (fault_of a large t g l) (fault_from a large (totals_with t g l) gs ls) h).0 in
-    let of_it : fault_of a large t u (Some m) ≡ None =
-    subst (λ (q : StoredText). fault_of a large t q (Some m) ≡ None) (same g u is) (subst (λ (q : Option LaidText). fault_of a large t g q ≡ None) (same l (Some m) laid) here) in
-    bounded_of a large t u fs m u.formulas defined of_it
-bounded_at a large t (g ∷ gs) (l ∷ ls) (suc i) u m fs is laid defined h =
-    bounded_at a large (totals_with t g l) gs ls i u m fs is laid defined (here_or_later g (fault_of a large t g l) (fault_from a large (totals_with t g l) gs ls) h).1
+bounded_at a left t (g ∷ gs) (l ∷ ls) zero u m fs is laid defined h =
+    let here = (here_or_later g (fault_of a left t g l) (fault_from a left (totals_with t g l) gs ls) h).0 in
+    let of_it : fault_of a left t u (Some m) ≡ None =
+    subst (λ (q : StoredText). fault_of a left t q (Some m) ≡ None) (same g u is) (subst (λ (q : Option LaidText). fault_of a left t g q ≡ None) (same l (Some m) laid) here) in
+    bounded_of a left t u fs m u.formulas defined of_it
+bounded_at a left t (g ∷ gs) (l ∷ ls) (suc i) u m fs is laid defined h =
+    bounded_at a left (totals_with t g l) gs ls i u m fs is laid defined (here_or_later g (fault_of a left t g l) (fault_from a left (totals_with t g l) gs ls) h).1
 
 -- ---- the calls that are shown
 
@@ -179,7 +179,7 @@ shown_call : (a : Algorithm) (gs : List StoredText) (i : ℕ) (u : StoredText) (
     → (c : CallsAt a u m x v p) → is_call_bounded a c.standing c.formula (map whole m.region) u.subject.name c.call ≡ Some true
 shown_call a gs i u m x v p l none c =
     let outer : List Binding = head_scope m.skeleton in
-    let root : is_root_bounded a u c.formulas m ≡ Some true = bounded_at a (has_large gs) no_totals gs (laid_functions a gs) i u m c.formulas l.is l.laid c.defined none in
+    let root : is_root_bounded a u c.formulas m ≡ Some true = bounded_at a (calls_of_large a gs) no_totals gs (laid_functions a gs) i u m c.formulas l.is l.laid c.defined none in
     let of_it : is_definition_bounded a u outer (map whole m.region) c.number c.formula c.nest ≡ Some true =
     definition_bounded a u outer (map whole m.region) 0 c.number c.number c.formulas m.skeleton.nests c.formula c.nest (omega arith) c.is c.nested root in
     let R : Option AroundText → Option Bool = λ o. o >>= λ r. are_bounded a r c.formula (map whole m.region) u.subject.name (calls_in c.formula) in

@@ -1,5 +1,6 @@
 -- What the refusal of a placement, or its plan, says of an algorithm and a schedule.
-use Rattle.std.proofs.Common.{◌≡◌, ℕ, true, false, List, [], length, map, take, Option, Some, None, Result, Ok, Err, subst, refl, sym, ap, ◌∙◌, inl, inr}
+use Rattle.std.proofs.Common.{◌≡◌, ℕ, true, false, List, [], ◌∷◌, length, map, take, Option, Some, None, Result, Ok, Err, subst, refl, sym, ap, ◌∙◌, inl, inr}
+use Rattle.std.specs.Global.{Vec}
 use Rattle.std.specs.Prelude.{IfOk, IfErr, Bool, ◌&&◌, if◌then◌else◌, nat_le}
 use Rattle.std.proofs.lemmas.Result.{IfOk-weaker}
 use Rattle.meaning.specs.Algorithm.{Algorithm}
@@ -21,12 +22,14 @@ use Rattle.lower.specs.Stored.{StoredText, has_large, stored_functions}
 use Rattle.lower.specs.Large.{Finds, IsTold, IsToldOf}
 use Rattle.lower.specs.Regions.{LaidText, laid_functions}
 use Rattle.lower.specs.declared.parties.Party.{Party}
-use Rattle.lower.specs.Broken.{Inside, leaves_others, first_from, first_over, asked_count, unless_behind, first_told}
+use Rattle.lower.specs.Broken.{Inside, calls_left, first_from, first_over, asked_count, unless_behind, first_told}
 use Rattle.lower.specs.Faults.{are_whole, no_totals, region_fault}
 use Rattle.lower.specs.Uses.{AreUsedInside, FindsUse, TellsUse}
-use Rattle.lower.specs.Groups.{rounds, AreGroupsMade, IsPlanOf, IsKeptPlan, inside_at, rooted}
-use Rattle.lower.specs.Planned.{TellsOf, unplanned, unplanned_over}
-use Rattle.lower.specs.Refused.{Answers, AnswersBy, AreSmall, IsFirstOver, IsNoneFrom, IsNoneOver, AreRegionsKept, AreUsesInside, IsRefused, IsUnplanned, subjects_of}
+use Rattle.lower.specs.declared.inner.Inner.{Inner}
+use Rattle.lower.specs.Placed.{inner_seen}
+use Rattle.lower.specs.Groups.{rounds, AreAlone, AreGroupsMade, HasNone, IsPlanOf, IsKeptPlan, inside_at, inside_of, party_of, rooted}
+use Rattle.lower.specs.Planned.{TellsOf, none_inside, unplanned, unplanned_over}
+use Rattle.lower.specs.Refused.{Answers, AnswersBy, AreSmall, IsFirstOver, IsNoneFrom, IsNoneOver, AreRegionsKept, AreUsesInside, IsRefused, subjects_of}
 use Rattle.lower.proofs.Sizes.{none_is_large}
 use Rattle.lower.proofs.Breaking.{whole_told, none_is_over}
 use Rattle.lower.proofs.First.{first_of, none_of}
@@ -66,10 +69,10 @@ module _ (a : Algorithm) (us : List SubjectText) (gs : List StoredText) (P : Low
 
   -- what the first of so many functions breaks
   abbrev First : Option (RegionRule × List ℕ)
-  First = first_from a gs inside (leaves_others gs o) no_totals (take n gs) ls
+  First = first_from a gs inside (calls_left a gs o) no_totals (take n gs) ls
 
   told_is : n ≡ asked_count us (length gs) o → first_told a us gs o ls inside ≡ unless_behind o First
-  told_is e = ap (λ k. unless_behind o (first_from a gs inside (leaves_others gs o) no_totals (take k gs) ls)) (sym e)
+  told_is e = ap (λ k. unless_behind o (first_from a gs inside (calls_left a gs o) no_totals (take k gs) ls)) (sym e)
 
   -- it breaks this rule, over regions that are those of whole functions, and that is told
   pub fault_told : (e : RegionRule × List ℕ) (q : Option (RegionRule × List ℕ)) → n ≡ asked_count us (length gs) o → q ≡ First → Finds gs n q → FindsUse gs gs n q
@@ -87,37 +90,48 @@ module _ (a : Algorithm) (us : List SubjectText) (gs : List StoredText) (P : Low
       → AnswersBy a gs P Over NoneOver o (Err (error.Schedule (refusal.Broken e.0 e.1)))
   placed_told e q count is none fault = (fault, told_is count ∙ sym (ap (unless_behind o) is) ∙ none)
 
-  answers_unplanned : (r : Result Lowered LowerError) → o ≡ None → has_large gs ≡ false → (are_whole gs ≡ true → region_fault a gs ≡ None) → NoneOver
-      → AreUsedInside gs → IfOk r P → IfErr r IsUnplanned → (are_whole gs ≡ true → TellsOf r (unplanned a gs)) → AnswersBy a gs P Over NoneOver o r
-  answers_unplanned (Ok l) e h k kept used made is told = (e, h, λ w. (k w, told w), made, used)
-  answers_unplanned (Err error.Memory) e h k kept used made is told = tt
-  answers_unplanned (Err (error.Schedule s)) e h k kept used made is told = absurd is
-  answers_unplanned (Err (error.Broken rule.OutsideUse x)) e h k kept used made is told = absurd is
-  answers_unplanned (Err (error.Broken rule.TooLarge x)) e h k kept used made is told = absurd is
-  answers_unplanned (Err (error.Broken rule.ShortShift x)) e h k kept used made is told = absurd is
-  answers_unplanned (Err (error.Broken rule.SmallFold x)) e h k kept used made is told = absurd is
-  answers_unplanned (Err (error.Broken rule.TooMuch x)) e h k kept used made is told = absurd is
-  answers_unplanned (Err (error.Broken rule.Unbounded x)) e h k kept used made is told = (inr (h, used), λ w. inr (refl, k w, (told w).1), inr (refl, e, kept))
+  answers_unplanned : (r : Result Lowered LowerError) → o ≡ None → has_large gs ≡ false → (are_whole gs ≡ true → region_fault a gs ≡ None) → NoneOver → AreUsedInside gs → IfOk r P
+      → (are_whole gs ≡ true → unplanned_over a gs ls inside ≡ unplanned a gs) → TellsOf r (unplanned_over a gs ls inside) → AnswersBy a gs P Over NoneOver o r
+  answers_unplanned (Ok l) e h k kept used made same told = (e, h, λ w. (k w, sym (same w) ∙ told), made, used)
+  answers_unplanned (Err error.Memory) e h k kept used made same told = tt
+  answers_unplanned (Err (error.Schedule s)) e h k kept used made same told = absurd told
+  answers_unplanned (Err (error.Broken r x)) e h k kept used made same told =
+      subst (λ (q : RegionRule). AnswersBy a gs P Over NoneOver o (Err (error.Broken q x))) (sym told.0)
+      (inr (h, used), λ w. inr (refl, k w, sym (same w) ∙ told.1), inr (refl, e, kept, told.1))
+
+-- nothing is computed inside these
+inside_alone : (r : Result (Vec Inner) (List ℕ)) → HasNone r → inside_of r ≡ Ok []
+inside_alone (Ok v) h = ap (λ (is : List Inner). Ok (map inner_seen is)) h
+inside_alone (Err x) h = absurd h
+
+all_alone : (ps : List Party) → AreAlone ps → map inside_at ps ≡ none_inside (map party_of ps)
+all_alone [] h = refl
+all_alone (p ∷ ps) h = λ i. inside_alone p.inners h.0 i ∷ all_alone ps h.1 i
+
+as_whole : (a : Algorithm) (gs : List StoredText) (ls : List (Option LaidText)) (qs : List Party) → map party_of qs ≡ rooted true gs ls → AreAlone qs → ls ≡ laid_functions a gs
+    → unplanned_over a gs ls (map inside_at qs) ≡ unplanned a gs
+as_whole a gs ls qs roots alone laid =
+    ap (unplanned_over a gs ls) (all_alone qs alone ∙ ap none_inside roots) ∙ (λ i. unplanned_over a gs (laid i) (none_inside (rooted true gs (laid i))))
 
 -- none of them does, and no plan, or one, is made
 pub unplanned_told : (a : Algorithm) (us : List SubjectText) (gs : List StoredText) (o : Option (Rule × List ℕ)) (ls : List (Option LaidText)) (qs : List Party) (n : ℕ)
     (q : Option (RegionRule × List ℕ)) (r : Result Lowered LowerError) → o ≡ None → n ≡ asked_count us (length gs) o
-    → q ≡ first_from a gs (map inside_at qs) (leaves_others gs o) no_totals (take n gs) ls → Finds gs n q → FindsUse gs gs n q → unless_behind o q ≡ None
-    → (are_whole gs ≡ true → ls ≡ laid_functions a gs) → IfOk r (IsPlanOf a gs ls qs) → IfErr r IsUnplanned
-    → (rooted false gs ls ≡ [] → TellsOf r (unplanned_over a gs ls))
+    → q ≡ first_from a gs (map inside_at qs) (calls_left a gs o) no_totals (take n gs) ls → Finds gs n q → FindsUse gs gs n q → unless_behind o q ≡ None
+    → (are_whole gs ≡ true → ls ≡ laid_functions a gs) → map party_of qs ≡ rooted true gs ls → (rooted false gs ls ≡ [] → AreAlone qs) → IfOk r (IsPlanOf a gs ls qs)
+    → TellsOf r (unplanned_over a gs ls (map inside_at qs))
     → AnswersBy a gs (IsKeptPlan a gs ls qs) (IsFirstOver a us gs o ls (map inside_at qs)) (IsNoneOver a us gs o ls (map inside_at qs)) o r
-unplanned_told a us gs o ls qs n q r e count first finds uses told_none laid made is told =
+unplanned_told a us gs o ls qs n q r e count first finds uses told_none laid roots alone made told =
     let inside = map inside_at qs in
     let c : n ≡ length gs = count ∙ ap (asked_count us (length gs)) e in
     let none : q ≡ None = alone_none q (ap (λ p. unless_behind p q) (sym e) ∙ told_none) in
-    let f : None ≡ first_from a gs inside (leaves_others gs o) no_totals (take n gs) ls = sym none ∙ first in
+    let f : None ≡ first_from a gs inside (calls_left a gs o) no_totals (take n gs) ls = sym none ∙ first in
     let kept : first_over a gs o ls inside ≡ None = none_is_over a gs inside o n ls c f in
     let free : first_over a gs None ls inside ≡ None = subst (λ (p : Option (Rule × List ℕ)). first_over a gs p ls inside ≡ None) e kept in
     let untold : first_told a us gs o ls inside ≡ None =
     told_is a us gs (IsKeptPlan a gs ls qs) o ls inside n count ∙ sym (ap (unless_behind o) first) ∙ told_none in
     answers_unplanned a us gs (IsKeptPlan a gs ls qs) o ls inside n r e (none_is_large gs n c (subst (Finds gs n) none finds)) (none_of a gs ls n (whole_told a gs inside o n ls None f) laid c)
-    untold (none_is gs n c (subst (FindsUse gs gs n) none uses)) (IfOk-weaker r (IsPlanOf a gs ls qs) (IsKeptPlan a gs ls qs) (λ l p. record { plan = p; kept = free }) made) is
-    (λ w. subst (λ (ms : List (Option LaidText)). TellsOf r (unplanned_over a gs ms)) (laid w) (told (none_else gs ls w)))
+    untold (none_is gs n c (subst (FindsUse gs gs n) none uses)) (IfOk-weaker r (IsPlanOf a gs ls qs) (IsKeptPlan a gs ls qs) (λ l p. record { plan = p; kept = free }) made)
+    (λ w. as_whole a gs ls qs roots (alone (none_else gs ls w)) (laid w)) told
 
 -- ---- the algorithm and its schedule
 

@@ -7,6 +7,7 @@ use Rattle.lin.specs.declared.scope.Binding.{Binding}
 use Rattle.lin.specs.declared.span.Span1.{Span1}
 use Rattle.meaning.specs.Algorithm.{Algorithm}
 use Rattle.meaning.specs.Names.{same_name}
+use Rattle.algo.specs.Scoping.Standing.{Written}
 use Rattle.sched.specs.declared.error.Rule.{Rule}
 use Rattle.sched.specs.declared.schedule.Split.{Split}
 use Rattle.sched.specs.declared.numbers.Numbers.{Numbers}
@@ -20,11 +21,12 @@ use Rattle.sched.specs.Standing.{◌>>=◌}
 use Rattle.lower.specs.Blocks.{difference}
 use Rattle.lower.specs.Bounded.{is_bounded}
 use Rattle.lower.specs.declared.legality.Totals.{Totals}
-use Rattle.lower.specs.Faults.{are_whole, no_totals, with_laid, fault_within, totals_with, or_later, first_laid, other_laid}
+use Rattle.lower.specs.Faults.{are_whole, no_totals, with_laid, fault_within, unless_left, totals_with, or_later, first_laid, other_laid}
+use Rattle.lower.specs.Lacking.{lacking}
 use Rattle.lower.specs.Parted.{add_extents}
 use Rattle.lower.specs.Placed.{LaterText, PlacedText}
 use Rattle.lower.specs.Regions.{LaidText}
-use Rattle.lower.specs.Stored.{FormulaText, StoredText, is_large, has_large}
+use Rattle.lower.specs.Stored.{FormulaText, StoredText, is_large}
 use Rattle.lower.specs.Taken.{shortest}
 use Rattle.lower.specs.Uses.{is_used_outside}
 use Rattle.lower.specs.Windows.{fewer}
@@ -154,28 +156,30 @@ module _ (a : Algorithm) (x : List ℕ) where
 
 -- ---- of all functions
 
--- some function leaves others without regions: where a rule is broken that this one tells, it is computed at no loop that is there; or it is too large, or used outside of
+-- a function leaves others without regions: where a rule is broken that this one tells, it is computed at no loop that is there; or it is too large, or used outside of
 -- the loop at which it is computed
-abbrev pub is_home_rule : Option (Rule × List ℕ) → Bool
-is_home_rule None = false
-is_home_rule (Some e) = number_of e.0 == 6
+abbrev pub is_home_rule : Option (Rule × List ℕ) → StoredText → Bool
+is_home_rule None g = false
+is_home_rule (Some e) g = number_of e.0 == 6 && same_name e.1 g.subject.name
 
-abbrev pub leaves : List StoredText → StoredText → Bool
-leaves gs g = is_large g || is_used_outside gs g
+abbrev pub leaves_some : List StoredText → Option (Rule × List ℕ) → StoredText → Bool
+leaves_some gs o g = is_large g || (is_home_rule o g || is_used_outside gs g)
 
-abbrev pub leaves_some : List StoredText → Option (Rule × List ℕ) → Bool
-leaves_some gs o = is_home_rule o || list_any (leaves gs) gs
+abbrev pub leaves_others : List StoredText → Option (Rule × List ℕ) → StoredText → Bool
+leaves_others gs o g = if are_whole gs then is_large g else leaves_some gs o g
 
-abbrev pub leaves_others : List StoredText → Option (Rule × List ℕ) → Bool
-leaves_others gs o = if are_whole gs then has_large gs else leaves_some gs o
+-- what these call, and what that calls
+abbrev pub calls_left : Algorithm → List StoredText → Option (Rule × List ℕ) → List Written
+calls_left a gs o = lacking a (leaves_others gs o) gs
 
 -- of a root function as `Faults` has it, of another one wherever it is computed
 abbrev pub fault_of_kind : Algorithm → List Inside → Totals → StoredText → List FormulaText → LaidText → Option RegionRule
 fault_of_kind a inside t g fs l = if g.subject.is_root then fault_within a g fs (with_laid t l) l else fault_inside a g.subject.name inside
 
-module _ (a : Algorithm) (inside : List Inside) (missed : Bool) where
+module _ (a : Algorithm) (inside : List Inside) (left : List Written) where
+  -- without a region L12, but where one of those calls leaves it without one
   abbrev pub fault_over : Totals → StoredText → List FormulaText → Option LaidText → Option RegionRule
-  fault_over t g fs None = if missed then None else Some Unbounded
+  fault_over t g fs None = unless_left g left
   fault_over t g fs (Some l) = fault_of_kind a inside t g fs l
 
   abbrev pub fault_by : Totals → StoredText → Option (List FormulaText) → Option LaidText → Option RegionRule
@@ -189,10 +193,10 @@ module _ (a : Algorithm) (inside : List Inside) (missed : Bool) where
 abbrev pub totals_of : Totals → StoredText → Option LaidText → Totals
 totals_of t g l = if g.subject.is_root then totals_with t g l else t
 
-module _ (a : Algorithm) (all : List StoredText) (inside : List Inside) (missed : Bool) where
+module _ (a : Algorithm) (all : List StoredText) (inside : List Inside) (left : List Written) where
   -- L6 first, where it is used outside of its loop
   abbrev pub rule_of : Totals → StoredText → Option LaidText → Option RegionRule
-  rule_of t g l = if is_used_outside all g then Some OutsideUse else fault_of a inside missed t g l
+  rule_of t g l = if is_used_outside all g then Some OutsideUse else fault_of a inside left t g l
 
   -- the first of these functions, in the order of declaration, that breaks a rule, and the rule of the lowest number, behind others that have these totals
   abbrev pub first_from : Totals → List StoredText → List (Option LaidText) → Option (RegionRule × List ℕ)
@@ -201,7 +205,7 @@ module _ (a : Algorithm) (all : List StoredText) (inside : List Inside) (missed 
 
 -- of all of them over these regions, where these are computed inside, and a rule that asks for no region is broken, or none
 abbrev pub first_over : Algorithm → List StoredText → Option (Rule × List ℕ) → List (Option LaidText) → List Inside → Option (RegionRule × List ℕ)
-first_over a gs o ls inside = first_from a gs inside (leaves_others gs o) no_totals gs ls
+first_over a gs o ls inside = first_from a gs inside (calls_left a gs o) no_totals gs ls
 
 -- ---- beside the rules that ask for no region
 
@@ -231,4 +235,4 @@ unless_behind (Some o) (Some e) = unless_later o e
 -- What is told by regions, function by function in the order of declaration, the lowest number first: the first function that breaks such a rule, up to the one that breaks a
 -- rule which asks for no region, of which itself only one of a lower number counts. These are all functions, of which those are stored.
 abbrev pub first_told : Algorithm → List SubjectText → List StoredText → Option (Rule × List ℕ) → List (Option LaidText) → List Inside → Option (RegionRule × List ℕ)
-first_told a us gs o ls inside = unless_behind o (first_from a gs inside (leaves_others gs o) no_totals (take (asked_count us (length gs) o) gs) ls)
+first_told a us gs o ls inside = unless_behind o (first_from a gs inside (calls_left a gs o) no_totals (take (asked_count us (length gs) o) gs) ls)

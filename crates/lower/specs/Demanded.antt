@@ -1,5 +1,5 @@
 -- What is needed of a function at a place of a nest: what stands around the place, the calls of the function there and inside of it, and the region that they need.
-use Rattle.std.specs.Prelude.{ℕ, zero, suc, ◌+◌, ◌==◌, Bool, true, false, ◌&&◌, if◌then◌else◌, List, [], ◌∷◌, ◌++◌, length, take, nat_le, Option, Some, None, slice_get}
+use Rattle.std.specs.Prelude.{ℕ, zero, suc, ◌+◌, ◌==◌, Bool, true, false, not, ◌&&◌, if◌then◌else◌, List, [], ◌∷◌, ◌++◌, length, take, nat_le, Option, Some, None, slice_get}
 use Rattle.std.specs.Option.{is_some}
 use Rattle.std.specs.List.{list_any}
 use Rattle.lin.specs.Regions.{span_inside}
@@ -12,7 +12,7 @@ use Rattle.sched.specs.declared.schedule.Tail.TheVariants.{Guard, Roundup, Shift
 use Rattle.sched.specs.declared.numbers.Extent.{Extent}
 use Rattle.sched.specs.declared.skeleton.Step.{Step}
 use Rattle.sched.specs.Skeleton.{NestText}
-use Rattle.sched.specs.Standing.{◌>>=◌}
+use Rattle.sched.specs.Standing.{◌>>=◌, is_half}
 use Rattle.lower.specs.declared.spots.Host.{Host}
 use Rattle.lower.specs.declared.spots.Host.TheVariants.{Own, Inner as Inside, Later as Anew}
 use Rattle.lower.specs.declared.spots.Spot.{Spot}
@@ -86,12 +86,19 @@ stands_inside is s (suc deep) n = elim (slice_get is n) [ Some i ↦ inside_by (
 
 -- ---- the calls
 
--- the loop of this name is split so that its last block runs past the end
-abbrev pub is_rounding : List ℕ → Split → Bool
-is_rounding x c = elim c.tail [ Guard ↦ false | Roundup ↦ same_name c.whole x | Shift ↦ false ]
+abbrev pub has_split_half : List Split → Split → Bool
+has_split_half cs c = list_any (λ d. is_half c d.whole) cs
+
+-- its blocks have one number, and its halves are not split again
+abbrev pub is_alone : List Split → Split → Bool
+is_alone cs c = (c.factor == 1) && not (has_split_half cs c)
+
+-- the loop of this name is split so that its last block may run past the end: a block of one number alone runs past none
+abbrev pub is_rounding : List Split → List ℕ → Split → Bool
+is_rounding cs x c = elim c.tail [ Guard ↦ false | Roundup ↦ same_name c.whole x && not (is_alone cs c) | Shift ↦ false ]
 
 abbrev pub is_rounded : StoredText → ℕ → Bool
-is_rounded g d = elim (slice_get g.subject.variables d) [ Some x ↦ list_any (is_rounding x) g.placed.cuts | None ↦ false ]
+is_rounded g d = elim (slice_get g.subject.variables d) [ Some x ↦ list_any (is_rounding g.placed.cuts x) g.placed.cuts | None ↦ false ]
 
 module _ (a : Algorithm) (x : List ℕ) where
   -- the calls in the nests over what is new, where their last block runs past the end of what is needed; else these are among those in the other nests

@@ -2,13 +2,15 @@
 use Rattle.std.specs.Prelude.{◌≡◌, ℕ, ◌+◌, ◌*◌, ◌^◌, ◌-◌, min, nat_lt, Bool, true, false, ◌&&◌, ◌||◌, if◌then◌else◌, List, [], ◌∷◌, take, Option, Some, None}
 use Rattle.std.specs.List.{list_all}
 use Rattle.meaning.specs.Algorithm.{Algorithm}
+use Rattle.algo.specs.Scoping.Standing.{Written}
 use Rattle.sched.specs.declared.schedule.Home.{Home}
 use Rattle.sched.specs.declared.numbers.Extent.{Extent}
 use Rattle.sched.specs.Numbers.{loop_numbers, has_short_shift}
 use Rattle.sched.specs.declared.region_rule.RegionRule.{RegionRule}
 use Rattle.sched.specs.declared.region_rule.RegionRule.TheVariants.{ShortShift, TooLarge, TooMuch, Unbounded}
 use Rattle.lower.specs.declared.legality.Totals.{Totals}
-use Rattle.lower.specs.Stored.{FormulaText, StoredText, has_large}
+use Rattle.lower.specs.Stored.{FormulaText, StoredText, are_calls_of, is_large}
+use Rattle.lower.specs.Lacking.{lacking}
 use Rattle.lower.specs.Regions.{LaidText, laid_functions}
 use Rattle.lower.specs.Bounded.{is_root_bounded}
 
@@ -62,18 +64,21 @@ abbrev pub fault_within : Algorithm → StoredText → List FormulaText → Tota
 fault_within a g fs t l =
     if is_shifted_little g l then Some ShortShift else (if pass_limits t then Some TooMuch else unless_bounded (is_root_bounded a g fs l))
 
--- without a region L12, but where others may have left it without one
-abbrev pub fault_by_region : Algorithm → Bool → Totals → StoredText → List FormulaText → Option LaidText → Option RegionRule
-fault_by_region a large t g fs None = if large then None else Some Unbounded
-fault_by_region a large t g fs (Some l) = fault_within a g fs (with_laid t l) l
+-- without a region L12, but where one of these calls leaves it without one
+abbrev pub unless_left : StoredText → List Written → Option RegionRule
+unless_left g left = if are_calls_of g.subject.name left then None else Some Unbounded
+
+abbrev pub fault_by_region : Algorithm → List Written → Totals → StoredText → List FormulaText → Option LaidText → Option RegionRule
+fault_by_region a left t g fs None = unless_left g left
+fault_by_region a left t g fs (Some l) = fault_within a g fs (with_laid t l) l
 
 -- without definitions L11
-abbrev pub fault_by : Algorithm → Bool → Totals → StoredText → Option (List FormulaText) → Option LaidText → Option RegionRule
-fault_by a large t g None l = Some TooLarge
-fault_by a large t g (Some fs) l = fault_by_region a large t g fs l
+abbrev pub fault_by : Algorithm → List Written → Totals → StoredText → Option (List FormulaText) → Option LaidText → Option RegionRule
+fault_by a left t g None l = Some TooLarge
+fault_by a left t g (Some fs) l = fault_by_region a left t g fs l
 
-abbrev pub fault_of : Algorithm → Bool → Totals → StoredText → Option LaidText → Option RegionRule
-fault_of a large t g l = fault_by a large t g g.formulas l
+abbrev pub fault_of : Algorithm → List Written → Totals → StoredText → Option LaidText → Option RegionRule
+fault_of a left t g l = fault_by a left t g g.formulas l
 
 abbrev pub totals_by : Totals → Option (List FormulaText) → Option LaidText → Totals
 totals_by t None l = t
@@ -97,17 +102,21 @@ other_laid [] = []
 other_laid (l ∷ ls) = ls
 
 -- the first in the order of declaration that breaks one, and the rule
-abbrev pub fault_from : Algorithm → Bool → Totals → List StoredText → List (Option LaidText) → Option (RegionRule × List ℕ)
-fault_from a large t [] ls = None
-fault_from a large t (g ∷ gs) ls =
-    or_later g (fault_of a large t g (first_laid ls)) (fault_from a large (totals_with t g (first_laid ls)) gs (other_laid ls))
+abbrev pub fault_from : Algorithm → List Written → Totals → List StoredText → List (Option LaidText) → Option (RegionRule × List ℕ)
+fault_from a left t [] ls = None
+fault_from a left t (g ∷ gs) ls =
+    or_later g (fault_of a left t g (first_laid ls)) (fault_from a left (totals_with t g (first_laid ls)) gs (other_laid ls))
 
--- over the regions that are needed of them; where some function is too large, no region of another one is missed
+-- what functions that are too large call, and what that calls
+abbrev pub calls_of_large : Algorithm → List StoredText → List Written
+calls_of_large a gs = lacking a is_large gs
+
+-- over the regions that are needed of them; of what is called by one that is too large no region is missed
 abbrev pub region_fault : Algorithm → List StoredText → Option (RegionRule × List ℕ)
-region_fault a gs = fault_from a (has_large gs) no_totals gs (laid_functions a gs)
+region_fault a gs = fault_from a (calls_of_large a gs) no_totals gs (laid_functions a gs)
 
 -- ---- as far as it is asked
 
 -- of whole functions this is what the first of so many breaks, behind others that have these totals
-abbrev pub IsFirstOf : Algorithm → Bool → Totals → ℕ → List StoredText → List (Option LaidText) → Option (RegionRule × List ℕ) → Type 0
-IsFirstOf a large t n gs ls o = are_whole gs ≡ true → o ≡ fault_from a large t (take n gs) ls
+abbrev pub IsFirstOf : Algorithm → List Written → Totals → ℕ → List StoredText → List (Option LaidText) → Option (RegionRule × List ℕ) → Type 0
+IsFirstOf a left t n gs ls o = are_whole gs ≡ true → o ≡ fault_from a left t (take n gs) ls

@@ -16,6 +16,7 @@ pub mod Guarded
 pub mod Heads
 pub mod Homes
 pub mod Held
+pub mod Lacking
 pub mod Large
 pub mod Limited
 pub mod Loading

@@ -1,6 +1,6 @@
 -- The nests of a function that is computed inside loops, where its loops are split: the loops that the schedule left, in its order, with their marks, and behind each of
 -- them what its splits put there.
-use Rattle.std.specs.Prelude.{ℕ, ◌+◌, ◌-◌, ◌^◌, ◌==◌, nat_lt, ℤ, pos, negsuc, ◌-ℤ◌, int_rem, Bool, true, false, not, ◌&&◌, ◌||◌, if◌then◌else◌, List, [], ◌∷◌, ◌++◌, length, map, find, Option, Some, None, slice_get}
+use Rattle.std.specs.Prelude.{ℕ, ◌+◌, ◌-◌, ◌^◌, ◌==◌, nat_lt, ℤ, pos, negsuc, ◌-ℤ◌, int_rem, Bool, true, false, not, ◌||◌, if◌then◌else◌, List, [], ◌∷◌, ◌++◌, length, map, find, Option, Some, None, slice_get}
 use Rattle.std.specs.List.{list_any}
 use Rattle.std.specs.Option.{option_map, is_some}
 use Rattle.lin.specs.Forms.{Form, number, combined}
@@ -21,7 +21,7 @@ use Rattle.sched.specs.declared.skeleton.Step.{Step}
 use Rattle.sched.specs.declared.skeleton.Step.TheVariants.{Named}
 use Rattle.sched.specs.Numbers.{numbers_named, loop_numbers}
 use Rattle.sched.specs.Skeleton.{BodyText, NestText, kept_from, nest_of}
-use Rattle.sched.specs.Standing.{◌>>=◌, StandingText, alone, is_half, cuts_by_variable}
+use Rattle.sched.specs.Standing.{◌>>=◌, StandingText, alone, cuts_by_variable}
 use Rattle.lower.specs.declared.ends.Counted.{Counted}
 use Rattle.lower.specs.declared.ends.Facts.{Facts}
 use Rattle.lower.specs.declared.ends.Frame.{Frame}
@@ -30,7 +30,7 @@ use Rattle.lower.specs.declared.counting.Blocks.{Blocks}
 use Rattle.lower.specs.declared.standing.Run.{Run}
 use Rattle.lower.specs.Stored.{FormulaText, StoredText}
 use Rattle.lower.specs.Blocks.{difference}
-use Rattle.lower.specs.Demanded.{is_rounding}
+use Rattle.lower.specs.Demanded.{is_alone, is_rounding}
 use Rattle.lower.specs.Regions.{bodies_from, symbols_from}
 use Rattle.lower.specs.Taken.{freed, shortest}
 use Rattle.lower.specs.Turned.{kind_of, is_run, range_runs, whole_nests}
@@ -84,19 +84,13 @@ module _ (xs : List (List ℕ)) (region : List Span1) (f : FrameText) where
 
 -- ---- splits
 
--- a block of one number begins at no smaller number where `shift` moves it back: it is kept as with `guard`
+-- a block of one number begins at no smaller number where `shift` moves it back, and ends at no greater one under `roundup`: it is kept as with `guard`
 abbrev pub kept_tail : Bool → Tail → Tail
 kept_tail b tails.Shift = if b then tails.Guard else tails.Shift
 kept_tail b tails.Guard = tails.Guard
-kept_tail b tails.Roundup = tails.Roundup
-
-abbrev pub has_split_half : List Split → Split → Bool
-has_split_half cs c = list_any (λ d. is_half c d.whole) cs
+kept_tail b tails.Roundup = if b then tails.Guard else tails.Roundup
 
 -- unless its halves are split again
-abbrev pub is_alone : List Split → Split → Bool
-is_alone cs c = (c.factor == 1) && not (has_split_half cs c)
-
 abbrev pub as_kept : List Split → Split → Split
 as_kept cs c = record c { tail = kept_tail (is_alone cs c) c.tail }
 
@@ -186,7 +180,7 @@ has_further scope s by = have_further scope s.upper by s.lower
 
 -- the variable's first split with `roundup`, and its factor
 abbrev pub rounded_cut : List Split → List ℕ → Option Split
-rounded_cut cs x = find (is_rounding x) cs
+rounded_cut cs x = find (is_rounding cs x) cs
 
 abbrev pub rounding : List Split → List ℕ → Option ℕ
 rounding cs x = option_map (λ c. c.factor) (rounded_cut cs x)

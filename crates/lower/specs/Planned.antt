@@ -1,5 +1,6 @@
--- Whether the lines of a whole function's group can be written: forms over the grid tell what its pieces own and claim, what they own is shown to lie in the region,
--- what each call of another function stays within is found, and each store has an index for each variable.
+-- Whether the lines of a function's group can be written, in whose loops others may be computed: forms over the grid tell what its pieces own and claim, what they own is
+-- shown to lie in the region, what each call of another function stays within is found, each store has an index for each variable, and under the names of the plan no form
+-- of a nest leaves the limits.
 use Rattle.std.specs.Prelude.{◌≡◌, ℕ, ◌+◌, ◌==◌, ℤ, pos, Bool, true, false, if◌then◌else◌, List, [], ◌∷◌, ◌++◌, map, Option, Some, None, Result, Ok, Err, slice_get}
 use Rattle.std.specs.Option.{is_some}
 use Rattle.std.specs.Ordering.{int_eq}
@@ -24,11 +25,13 @@ use Rattle.lower.specs.Around.{names_with, grid_scope}
 use Rattle.lower.specs.Bounded.{whole}
 use Rattle.lower.specs.Stored.{FormulaText, StoredText}
 use Rattle.lower.specs.Regions.{LaidText, laid_functions}
-use Rattle.lower.specs.Taken.{sites_of}
 use Rattle.lower.specs.Fetches.{Entry}
 use Rattle.lower.specs.Bodies.{first_left, other_lefts}
-use Rattle.lower.specs.Groups.{grid_over, has_region, rooted}
-use Rattle.lower.specs.Blocks.{factor_of, block_end, own_last, claim_last, with_last, product, difference, end_of, reach_over, is_guarded, uncut, places_by, whole_dimension, owned_region, lay_over, BlockText, PartText, Whole, Run, Scattered, LayText}
+use Rattle.lower.specs.Groups.{grid_over, has_region, rooted, roots_over}
+use Rattle.lower.specs.Broken.{Inside}
+use Rattle.lower.specs.Asked.{sites_in}
+use Rattle.lower.specs.Placed.{PlacedText, begun, group_owner, nests_over_grid}
+use Rattle.lower.specs.Blocks.{factor_of, block_end, own_last, claim_last, with_last, product, difference, end_of, reach_over, is_guarded, uncut, places_by, whole_dimension, dimensions_of, claimed_region, owned_region, lay_over, BlockText, PartText, Whole, Run, Scattered, LayText}
 
 -- ---- forms
 
@@ -165,14 +168,14 @@ is_owned g region k = is_owned_by g region (told_dimensions g region k)
 
 -- ---- what it fetches
 
--- what each call of the function of this entry, the group h, stays within is found, where that is another group than n
-abbrev pub is_found : Algorithm → Entry → ℕ → ℕ → Entry → Bool
-is_found a e n h c = if h == n then true else is_some (sites_of a e.0 e.2 e.1.skeleton c.0.subject.name)
+-- what each call of the function of this entry, the group h, stays within is found, also where those that are computed inside call it, where that is another group than n
+abbrev pub is_found : Algorithm → Entry → List PlacedText → ℕ → ℕ → Entry → Bool
+is_found a e is n h c = if h == n then true else is_some (sites_in a c.0.subject.name e is)
 
 -- those of the groups from h on
-abbrev pub are_found : Algorithm → Entry → ℕ → ℕ → List Entry → Bool
-are_found a e n h [] = true
-are_found a e n h (c ∷ cs) = if is_found a e n h c then are_found a e n (h + 1) cs else false
+abbrev pub are_found : Algorithm → Entry → List PlacedText → ℕ → ℕ → List Entry → Bool
+are_found a e is n h [] = true
+are_found a e is n h (c ∷ cs) = if is_found a e is n h c then are_found a e is n (h + 1) cs else false
 
 -- ---- what it stores
 
@@ -196,15 +199,23 @@ abbrev pub are_stored : StoredText → List FormulaText → ℕ → List NestTex
 are_stored g fs d [] = true
 are_stored g fs d (n ∷ ns) = if is_stored_by g d n (slice_get fs d) then are_stored g fs (d + 1) ns else false
 
+-- ---- nests
+
+-- its nests can be written, with those of the functions that are computed inside: whatever stands before them, since they hang on no number of a line, a buffer or a claim
+abbrev pub are_nested : Entry → List PlacedText → Bool
+are_nested e [] = are_stored e.0 e.2 0 e.1.skeleton.nests
+are_nested e (i ∷ is) =
+    is_some (nests_over_grid (i ∷ is) (group_owner e (claimed_region (dimensions_of e.0 e.1.region e.1.skeleton))) e.1.skeleton (begun 0 0 e.1.skeleton))
+
 -- ---- groups
 
--- what the pieces of the group n of these functions fetch and store
-abbrev pub is_written : Algorithm → List Entry → ℕ → Entry → Bool
-is_written a all n e = if are_found a e n 0 all then are_stored e.0 e.2 0 e.1.skeleton.nests else false
+-- what the pieces of the group n of these functions fetch and make, where these are computed inside its loops
+abbrev pub is_written : Algorithm → List Entry → ℕ → List PlacedText → Entry → Bool
+is_written a all n is e = if are_found a e is n 0 all then are_nested e is else false
 
 -- the group n of these functions
-abbrev pub is_planned : Algorithm → List Entry → ℕ → Entry → Bool
-is_planned a all n e = if is_owned e.0 e.1.region e.1.skeleton then is_written a all n e else false
+abbrev pub is_planned : Algorithm → List Entry → ℕ → List PlacedText → Entry → Bool
+is_planned a all n is e = if is_owned e.0 e.1.region e.1.skeleton then is_written a all n is e else false
 
 -- no name where it is so, else this one
 abbrev pub name_unless : Bool → List ℕ → Option (List ℕ)
@@ -215,13 +226,16 @@ abbrev pub or_later : Option (List ℕ) → Option (List ℕ) → Option (List �
 or_later (Some x) later = Some x
 or_later None later = later
 
-abbrev pub unplanned_at : Algorithm → List Entry → ℕ → Entry → Option (List ℕ)
-unplanned_at a all n e = name_unless (is_planned a all n e) e.0.subject.name
+-- of a group in whose loops these are computed its own function's; or that of which a bound is missing there
+abbrev pub unplanned_at : Algorithm → List Entry → ℕ → Inside → Entry → Option (List ℕ)
+unplanned_at a all n (Ok is) e = name_unless (is_planned a all n is e) e.0.subject.name
+unplanned_at a all n (Err x) e = Some x
 
--- the name of the first, from the group n on, whose lines can't be written
-abbrev pub first_unplanned : Algorithm → List Entry → ℕ → List Entry → Option (List ℕ)
-first_unplanned a all n [] = None
-first_unplanned a all n (e ∷ es) = or_later (unplanned_at a all n e) (first_unplanned a all (n + 1) es)
+-- that of the first, from the group n on, whose lines can't be written
+abbrev pub first_unplanned : Algorithm → List Entry → ℕ → List Inside → List Entry → Option (List ℕ)
+first_unplanned a all n (i ∷ inside) (e ∷ es) = or_later (unplanned_at a all n i e) (first_unplanned a all (n + 1) inside es)
+first_unplanned a all n [] es = None
+first_unplanned a all n (i ∷ inside) [] = None
 
 -- a function has definitions and a region, where it is a root function
 abbrev pub is_laid : StoredText → Option LaidText → Bool
@@ -233,12 +247,17 @@ first_unlaid [] ls = None
 first_unlaid (g ∷ gs) [] = Some g.subject.name
 first_unlaid (g ∷ gs) (l ∷ ls) = or_later (name_unless (is_laid g l) g.subject.name) (first_unlaid gs ls)
 
--- of whole functions over these regions, the name of the first that has none, or else of the first whose group can't be written
-abbrev pub unplanned_over : Algorithm → List StoredText → List (Option LaidText) → Option (List ℕ)
-unplanned_over a gs ls = or_later (first_unlaid gs ls) (first_unplanned a (rooted true gs ls) 0 (rooted true gs ls))
+-- over these regions, where these are computed inside, the name of the first that has none, or else of the first whose group can't be written
+abbrev pub unplanned_over : Algorithm → List StoredText → List (Option LaidText) → List Inside → Option (List ℕ)
+unplanned_over a gs ls inside = or_later (first_unlaid gs ls) (first_unplanned a (rooted true gs ls) 0 inside (rooted true gs ls))
 
+-- nothing is computed inside these groups
+abbrev pub none_inside : List Entry → List Inside
+none_inside es = map (λ e. Ok []) es
+
+-- the same of whole functions
 abbrev pub unplanned : Algorithm → List StoredText → Option (List ℕ)
-unplanned a gs = unplanned_over a gs (laid_functions a gs)
+unplanned a gs = unplanned_over a gs (laid_functions a gs) (none_inside (roots_over a gs))
 
 -- ---- as it is told
 

@@ -18,7 +18,7 @@ use Rattle.sched.specs.declared.region_rule.RegionRule.TheVariants as rule
 use Rattle.lower.specs.Stored.{StoredText, has_large, stored_functions}
 use Rattle.lower.specs.Large.{IsToldOf}
 use Rattle.lower.specs.Faults.{are_whole, region_fault}
-use Rattle.lower.specs.Planned.{unplanned}
+use Rattle.lower.specs.Planned.{unplanned, unplanned_over}
 use Rattle.lower.specs.Uses.{AreUsedInside}
 use Rattle.lower.specs.Groups.{HasGroupsFrom, AreAllFoundIf, Come, placed_in, rooted, rounds}
 use Rattle.lower.specs.Homes.{AreAllAtHome}
@@ -45,10 +45,12 @@ KeepsRegions a gs = are_whole gs ≡ true → (region_fault a gs ≡ None) × (u
 abbrev pub IsFirst : Algorithm → List StoredText → RegionRule → List ℕ → Type 0
 IsFirst a gs r x = are_whole gs ≡ true → (region_fault a gs ≡ Some (r, x)) ⊎ ((r ≡ rule.Unbounded) × (region_fault a gs ≡ None) × (unplanned a gs ≡ Some x))
 
--- over these regions, where these are computed inside, it is what is told, function by function; or none breaks a rule, and L12 is told, since the lines of a group can't be written
+-- over these regions, where these are computed inside, it is what is told, function by function; or none breaks a rule, and L12 is told of the first whose group's lines can't be
+-- written
 abbrev pub IsFirstOver : Algorithm → List SubjectText → List StoredText → Option (Rule × List ℕ) → List (Option LaidText) → List Inside → RegionRule → List ℕ → Type 0
 IsFirstOver a us gs o ls inside r x =
-    (first_told a us gs o ls inside ≡ Some (r, x)) ⊎ ((r ≡ rule.Unbounded) × (o ≡ None) × (first_told a us gs o ls inside ≡ None))
+    (first_told a us gs o ls inside ≡ Some (r, x))
+    ⊎ ((r ≡ rule.Unbounded) × (o ≡ None) × (first_told a us gs o ls inside ≡ None) × (unplanned_over a gs ls inside ≡ Some x))
 
 -- no rule by regions is told before the one that asks for none
 abbrev pub IsNoneOver : Algorithm → List SubjectText → List StoredText → Option (Rule × List ℕ) → List (Option LaidText) → List Inside → Type 0
@@ -123,13 +125,6 @@ AnswersFrom a us gs n first o r = AnswersBy a gs (HasGroupsFrom a gs n first) (I
 -- as many rounds as there may be, from the regions that are needed of the loops over whole functions
 abbrev pub Answers : Algorithm → List SubjectText → List StoredText → Option (Rule × List ℕ) → Result Lowered LowerError → Type 0
 Answers a us gs o r = AnswersFrom a us gs (rounds gs) (laid_functions a gs) o r
-
--- no plan was made, and no rule is told but that bounds are missing
-abbrev pub IsUnplanned : LowerError → Type 0
-IsUnplanned error.Memory = Unit {0}
-IsUnplanned (error.Schedule e) = ⊥
-IsUnplanned (error.Broken rule.Unbounded x) = Unit {0}
-IsUnplanned (error.Broken r x) = ⊥
 
 abbrev pub stop_of_form : LinError → Stop
 stop_of_form form.Memory = stop.Memory

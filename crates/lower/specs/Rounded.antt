@@ -33,7 +33,8 @@ use Rattle.lower.specs.Blocks.{sum, difference, product}
 use Rattle.lower.specs.Bounded.{is_bounded}
 use Rattle.lower.specs.Stored.{FormulaText, StoredText, calls_in}
 use Rattle.lower.specs.Taken.{at_least_one, run_of, shortest}
-use Rattle.lower.specs.Parted.{counted_at, has_further, has_split_half, nests_over, parted_nests, rounding, told_span}
+use Rattle.lower.specs.Demanded.{has_split_half, is_alone}
+use Rattle.lower.specs.Parted.{counted_at, has_further, nests_over, parted_nests, rounding, told_span}
 use Rattle.lower.specs.Slid.{is_single}
 use Rattle.lower.specs.Windows.{size_below}
 
@@ -235,9 +236,9 @@ is_roundup tails.Roundup = true
 is_roundup tails.Guard = false
 is_roundup tails.Shift = false
 
--- no update may read what is made past what is needed: the function has none, or none of its loops is split with `roundup`
+-- no update may read what is made past what is needed: the function has none, or none of its loops is split with `roundup` but in blocks of one number
 abbrev pub is_plain : StoredText → List FormulaText → Bool
-is_plain g fs = is_single fs || not (list_any (λ c. is_roundup c.tail) g.placed.cuts)
+is_plain g fs = is_single fs || not (list_any (λ c. is_roundup c.tail && not (is_alone g.placed.cuts c)) g.placed.cuts)
 
 abbrev pub lain_plainly : StoredText → List FormulaText → List Binding → List Span1 → List Span1 → Option LainText
 lain_plainly g fs scope region kept = nests_over g fs scope region kept >>= λ ns. Some (record { begun = unnamed region; nests = ns })

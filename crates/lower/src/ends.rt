@@ -1,9 +1,10 @@
 //! The ends of the loops of a function over what one turn needs of it: how many numbers they have, and what splits run over.
 
-ghost use Rattle.std.specs.Prelude.{◌≡◌, ◌++◌, [], IfOk, OnOk, slice_get};
+ghost use Rattle.std.specs.Prelude.{◌≡◌, ◌++◌, [], IfOk, OnOk, find, slice_get};
 ghost use Rattle.std.specs.Option.{is_some, option_copied};
 ghost use Rattle.sched.specs.Numbers.{numbers_named};
 ghost use Rattle.sched.specs.Standing as standing;
+ghost use Rattle.lower.specs.Demanded as demanded;
 ghost use Rattle.lower.specs.Limited.{Gives, Tells};
 ghost use Rattle.lower.specs.Parted as parted;
 ghost use Rattle.lower.specs.Settled as settled;
@@ -209,19 +210,26 @@ fn varies(
     }
 }
 
-// The variable's first split with `roundup`, where it has one.
-fn rounded_cut<'a>(cuts: &'a [Split], variable: &Name) -> Option<&'a Split>
-    ensures { option_copied result ≡ parted.rounded_cut cuts.now variable.now }
+// The first of these splits that is one of the variable's loop with `roundup`.
+fn rounded_among<'a>(all: &[Split], cuts: &'a [Split], variable: &Name) -> Option<&'a Split>
+    ensures { option_copied result ≡ find (demanded.is_rounding all.now variable.now) cuts.now }
 {
     match cuts {
         [] => None,
         [cut, rest @ ..] => {
-            if is_rounding(cut, variable) {
+            if is_rounding(all, cut, variable) {
                 return Some(cut);
             }
-            rounded_cut(rest, variable)
+            rounded_among(all, rest, variable)
         }
     }
+}
+
+// The variable's first split with `roundup`, where it has one.
+fn rounded_cut<'a>(cuts: &'a [Split], variable: &Name) -> Option<&'a Split>
+    ensures { option_copied result ≡ parted.rounded_cut cuts.now variable.now }
+{
+    rounded_among(&*cuts, &*cuts, variable)
 }
 
 /// The factor of the variable's split with `roundup`, where it has one.

@@ -835,8 +835,8 @@ pub(crate) fn fetch_of(
         some_calls (stored_of callee.now.stored.now).subject.name (map formula_of user.now.formulas.now)) }
     ensures pieces { IfOk result (λ found. IfSome found (λ one. one.needed ≡ needs.pieces_needed (stored_of callee.now.stored.now)
         callee.now.laid.now.region.items callee.now.laid.now.skeleton.grid.items one.region)) }
-    ensures told { inners.now ≡ [] → TellsIf result (is_some (spec.sites_of (algorithm_of algo.now) (stored_of user.now.stored.now)
-        (map formula_of user.now.formulas.now) (skeleton_seen user.now.laid.now.skeleton) (stored_of callee.now.stored.now).subject.name)) }
+    ensures told { TellsIf result (is_some (asked.sites_in (algorithm_of algo.now) (stored_of callee.now.stored.now).subject.name (root_of user.now)
+        (map inner_seen inners.now))) }
 {
     let name = callee.stored.subject.name.as_str();
     let sites = sites_of(alloc, algo, user, inners, name)?;

@@ -16,7 +16,7 @@ ghost use Rattle.lower.specs.Blocks as blocks;
 ghost use Rattle.lower.specs.Bodies.{body, first_lines, step_lines};
 ghost use Rattle.lower.specs.Fetches.{fetch_seen, fetched_groups, is_fetched, last_number};
 ghost use Rattle.lower.specs.Needs.{pieces_needed};
-ghost use Rattle.lower.specs.Limited.{TellsIf};
+ghost use Rattle.lower.specs.Limited.{Gives, TellsIf};
 ghost use Rattle.lower.specs.Placed as placed;
 ghost use Rattle.lower.specs.Planned as planned;
 ghost use Rattle.lower.specs.Making.{AddsClaim, BodyMade, FetchMade, FetchesMade, GroupMade, IsBegun, MayMake, NestsMade, with_first};
@@ -200,7 +200,8 @@ fn fetch_at<'a>(
         (skeleton_seen user.now.laid.now.skeleton)) (grid_scope_of user.now.laid.now.skeleton.grid.items) number
         (is_fetched (map formula_of user.now.formulas.now) number group (root_of callee.now))
         group (root_of callee.now) (option_map fetch_seen fetch) body.old body.new) }
-    ensures told { inners.now ≡ [] → TellsIf result (planned.is_found (algorithm_of algo.now) (root_of user.now) number group (root_of callee.now)) }
+    ensures told { TellsIf result (planned.is_found (algorithm_of algo.now) (root_of user.now) (map placed.inner_seen inners.now) number group
+        (root_of callee.now)) }
     ensures may { IfOk result (λ fetch. placed.MayFetch number group (root_of callee.now) (option_map fetch_seen fetch) body.old body.new) }
 {
     if group == number {
@@ -240,7 +241,8 @@ fn fetches_from<'a>(
         (map formula_of user.now.formulas.now)
         (skeleton_seen user.now.laid.now.skeleton)) (grid_scope_of user.now.laid.now.skeleton.grid.items) number
         (fetched_groups (map formula_of user.now.formulas.now) number group (map root_of roots.now)) (map fetch_seen v.items) body.old body.new) }
-    ensures told { inners.now ≡ [] → TellsIf result (planned.are_found (algorithm_of algo.now) (root_of user.now) number group (map root_of roots.now)) }
+    ensures told { TellsIf result (planned.are_found (algorithm_of algo.now) (root_of user.now) (map placed.inner_seen inners.now) number group
+        (map root_of roots.now)) }
     ensures fetched { IfOk result (λ v. placed.FetchesBy number (placed.numbered group (map root_of roots.now)) (map fetch_seen v.items) body.old body.new) }
 {
     match roots {
@@ -333,10 +335,10 @@ impl<'a> Body<'a> {
             (list_statements v.items) self.old self.new) }
         ensures told { cast.entry.inners.now ≡ [] → TellsIf result (planned.are_stored (stored_of cast.entry.root.now.stored.now)
             (map formula_of cast.entry.root.now.formulas.now) 0 (map nest_seen cast.entry.root.now.laid.now.skeleton.nests.items)) }
-        ensures mixed { IfOk result (λ v. placed.HasSome (map placed.inner_seen cast.entry.inners.now) →
-            placed.nests_over_grid (map placed.inner_seen cast.entry.inners.now)
+        ensures mixed { placed.HasSome (map placed.inner_seen cast.entry.inners.now) → Gives result (λ v. (list_statements v.items, placed.so_far self.new))
+            (placed.nests_over_grid (map placed.inner_seen cast.entry.inners.now)
             (placed.group_owner (root_of cast.entry.root.now) cast.entry.claimed.now) (skeleton_seen cast.entry.root.now.laid.now.skeleton)
-            (placed.so_far self.old) ≡ Some (list_statements v.items, placed.so_far self.new)) }
+            (placed.so_far self.old)) }
     {
         match cast.inners {
             [] => self.whole_nests(alloc, cast, 0, &cast.root.laid.skeleton.nests),
@@ -432,7 +434,8 @@ fn body_of<'a>(
     ensures made { IfOk result (λ v. inners.now ≡ [] → BodyMade (algorithm_of algo.now) (map root_of roots.now) beginning.number beginning.claim beginning.line
         v.line (root_of root.now) certificate.old.claims.items certificate.new.claims.items certificate.old.needs.items certificate.new.needs.items
         (body (list_statements v.statements.items))) }
-    ensures told { inners.now ≡ [] → TellsIf result (planned.is_written (algorithm_of algo.now) (map root_of roots.now) beginning.number (root_of root.now)) }
+    ensures told { TellsIf result (planned.is_written (algorithm_of algo.now) (map root_of roots.now) beginning.number
+        (map placed.inner_seen inners.now) (root_of root.now)) }
     ensures mixed { IfOk result (λ v. placed.HasSome (map placed.inner_seen inners.now) → MixedMade (map root_of roots.now) beginning.number beginning.claim
         beginning.line (v.line + 1) (map placed.inner_seen inners.now) (root_of root.now)
         certificate.old certificate.new (body (list_statements v.statements.items))) }
@@ -491,7 +494,8 @@ pub(crate) fn group_of<'a>(
         made.line (root_of root.now) certificate.old.claims.items certificate.new.claims.items certificate.old.needs.items
         certificate.new.needs.items made.group) }
     ensures windows { IfOk result (λ made. inners.now ≡ [] → certificate.new.windows.items ≡ certificate.old.windows.items) }
-    ensures told { inners.now ≡ [] → TellsIf result (planned.is_planned (algorithm_of algo.now) (map root_of roots.now) beginning.number (root_of root.now)) }
+    ensures told { TellsIf result (planned.is_planned (algorithm_of algo.now) (map root_of roots.now) beginning.number
+        (map placed.inner_seen inners.now) (root_of root.now)) }
     ensures by { IfOk result (λ made. GroupBy (algorithm_of algo.now) (map root_of roots.now) beginning.number beginning.claim beginning.line made.line
         (map placed.inner_seen inners.now) (root_of root.now) made.group certificate.old certificate.new) }
 {

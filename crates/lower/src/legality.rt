@@ -1,13 +1,12 @@
 //! The rules of schedules that ask what a function's loops run over.
 
 ghost use Rattle.std.specs.Prelude.{◌≡◌, ◌++◌, IfOk, OnOk, true, false, map, take};
-ghost use Rattle.std.specs.List.{list_any};
 ghost use Rattle.std.specs.Option.{option_map};
 ghost use Rattle.tree.specs.Term.{term_of, list_terms, indices};
 ghost use Rattle.algo.specs.View.{algorithm_of};
 ghost use Rattle.sched.specs.Skeleton.{nest_seen};
 ghost use Rattle.lower.specs.Limited.{Gives};
-ghost use Rattle.lower.specs.Stored.{formula_of, stored_of, is_large, has_large as have_large};
+ghost use Rattle.lower.specs.Stored.{formula_of, stored_of};
 ghost use Rattle.lower.specs.Large.{IsByRegion, IsFault, Finds};
 ghost use Rattle.lower.specs.Calls.{call_of};
 ghost use Rattle.lower.specs.Around.{around_of};
@@ -23,10 +22,11 @@ use crate::definitions::{Formula, Stored};
 use crate::error::Stop;
 use crate::fetching::Root;
 use crate::forms::{between, is_inside, whole};
+use crate::lacking::calls_left;
 use crate::parties::{Party, fault_inside};
-use crate::regions::{Laid, counts};
+use crate::regions::{Laid, are_calls_of, counts};
 use crate::scopes::{Around, around_in, head_scope, interval};
-use crate::uses::{are_whole, has_outside_use};
+use crate::uses::has_outside_use;
 use algo::Algo;
 use algo::scoping::same_name;
 use lin::{Region, Scope, Span1};
@@ -367,7 +367,19 @@ fn fault_of_kind(
     }
 }
 
-// The rule that a function of these definitions breaks. Where others may have left it without a region, none is missed.
+// L12, but of a function that one of these calls leaves without a region.
+fn unless_left(stored: &Stored<'_>, left: &[Call<'_>]) -> Option<RegionRule>
+    ensures kind { IsByRegion result }
+    ensures rule { result ≡ faults.unless_left (stored_of stored.now) (map call_of left.now) }
+{
+    if are_calls_of(stored.subject.name.as_str(), left) {
+        None
+    } else {
+        Some(RegionRule::Unbounded)
+    }
+}
+
+// The rule that a function of these definitions breaks. Where one of these calls leaves it without a region, none is missed.
 fn fault_by_region(
     alloc: Global,
     algo: &Algo,
@@ -375,19 +387,15 @@ fn fault_by_region(
     formulas: &[Formula],
     laid: Option<&Laid>,
     parties: &[Party<'_>],
-    is_missed: bool,
+    left: &[Call<'_>],
     totals: Totals,
 ) -> Result<Option<RegionRule>, AllocError>
     ensures kind { IfOk result IsByRegion }
-    ensures rule { IfOk result (λ rule. rule ≡ broken.fault_over (algorithm_of algo.now) (map inside_at parties.now) is_missed totals
+    ensures rule { IfOk result (λ rule. rule ≡ broken.fault_over (algorithm_of algo.now) (map inside_at parties.now) (map call_of left.now) totals
         (stored_of stored.now) (map formula_of formulas.now) (option_map (λ l. laid_of l.now) laid.entry)) }
 {
     let Some(laid) = laid else {
-        return Ok(if is_missed {
-            None
-        } else {
-            Some(RegionRule::Unbounded)
-        });
+        return Ok(unless_left(stored, left));
     };
     let root = Root {
         stored,
@@ -405,20 +413,18 @@ fn fault_of(
     stored: &Stored<'_>,
     laid: Option<&Laid>,
     parties: &[Party<'_>],
-    is_missed: bool,
+    left: &[Call<'_>],
     totals: Totals,
 ) -> Result<Option<RegionRule>, AllocError>
     ensures kind { IfOk result (IsFault (stored_of stored.now)) }
-    ensures rule { IfOk result (λ rule. rule ≡ broken.fault_of (algorithm_of algo.now) (map inside_at parties.now) is_missed totals
+    ensures rule { IfOk result (λ rule. rule ≡ broken.fault_of (algorithm_of algo.now) (map inside_at parties.now) (map call_of left.now) totals
         (stored_of stored.now) (option_map (λ l. laid_of l.now) laid.entry)) }
     ensures other { IfOk result (λ rule. is_use rule ≡ false) }
 {
     match &stored.formulas {
         None => Ok(Some(RegionRule::TooLarge)),
         Some(formulas) => {
-            fault_by_region(
-                alloc, algo, stored, formulas, laid, parties, is_missed, totals,
-            )
+            fault_by_region(alloc, algo, stored, formulas, laid, parties, left, totals)
         }
     }
 }
@@ -432,18 +438,18 @@ fn rule_broken<'a>(
     stored: &Stored<'a>,
     laid: Option<&Laid>,
     parties: &[Party<'_>],
-    is_missed: bool,
+    left: &[Call<'_>],
     totals: Totals,
 ) -> Result<Option<RegionRule>, AllocError>
     ensures kind { IfOk result (IsFault (stored_of stored.now)) }
-    ensures rule { IfOk result (λ rule. rule ≡ broken.rule_of (algorithm_of algo.now) (map stored_of all.now) (map inside_at parties.now) is_missed totals
-        (stored_of stored.now) (option_map (λ l. laid_of l.now) laid.entry)) }
+    ensures rule { IfOk result (λ rule. rule ≡ broken.rule_of (algorithm_of algo.now) (map stored_of all.now) (map inside_at parties.now)
+        (map call_of left.now) totals (stored_of stored.now) (option_map (λ l. laid_of l.now) laid.entry)) }
     ensures uses { IfOk result (λ rule. is_use rule ≡ is_used_outside (map stored_of all.now) (stored_of stored.now)) }
 {
     if has_outside_use(alloc, all, stored)? {
         return Ok(Some(RegionRule::OutsideUse));
     }
-    fault_of(alloc, algo, stored, laid, parties, is_missed, totals)
+    fault_of(alloc, algo, stored, laid, parties, left, totals)
 }
 
 // What the root functions have together with one more, where that has definitions and a region.
@@ -494,114 +500,33 @@ fn fault_from<'a>(
     all: &[Stored<'a>],
     parties: &[Party<'_>],
     count: usize,
-    is_missed: bool,
+    left: &[Call<'_>],
     totals: Totals,
     stored: &[Stored<'a>],
     laid: &[Option<Laid>],
 ) -> Result<Option<(RegionRule, Name)>, AllocError>
     ensures sizes { IfOk result (Finds (map stored_of stored.now) count) }
-    ensures first { IfOk result (λ found. found ≡ broken.first_from (algorithm_of algo.now) (map stored_of all.now) (map inside_at parties.now) is_missed
-        totals (take count (map stored_of stored.now)) (map (option_map laid_of) laid.now)) }
+    ensures first { IfOk result (λ found. found ≡ broken.first_from (algorithm_of algo.now) (map stored_of all.now) (map inside_at parties.now)
+        (map call_of left.now) totals (take count (map stored_of stored.now)) (map (option_map laid_of) laid.now)) }
     ensures uses { IfOk result (FindsUse (map stored_of all.now) (map stored_of stored.now) count) }
 {
-    let Some(left) = count.checked_sub(1) else {
+    let Some(fewer) = count.checked_sub(1) else {
         return Ok(None);
     };
     match stored {
         [] => Ok(None),
         [one, others @ ..] => {
             let first = first_laid(laid);
-            match rule_broken(alloc, algo, all, one, first, parties, is_missed, totals)? {
+            match rule_broken(alloc, algo, all, one, first, parties, left, totals)? {
                 Some(rule) => Ok(Some((rule, one.subject.name))),
                 None => {
                     let totals = totals_with(totals, one, first);
                     let rest = other_laid(laid);
-                    fault_from(
-                        alloc, algo, all, parties, left, is_missed, totals, others, rest,
-                    )
+                    fault_from(alloc, algo, all, parties, fewer, left, totals, others, rest)
                 }
             }
         }
     }
-}
-
-// Whether a definition of it passes the limits.
-#[tactic(auto, using(crate::proofs::Sizes::small_at, crate::proofs::Sizes::large_at))]
-fn is_large(one: &Stored<'_>) -> bool
-    ensures { result ≡ is_large (stored_of one.now) }
-{
-    match &one.formulas {
-        Some(_) => false,
-        None => true,
-    }
-}
-
-// The same of one of them.
-fn has_large(stored: &[Stored<'_>]) -> bool
-    ensures { result ≡ have_large (map stored_of stored.now) }
-{
-    match stored {
-        [] => false,
-        [one, rest @ ..] => is_large(one) || has_large(rest),
-    }
-}
-
-// Whether the rule is that a function is computed at no loop that is there.
-fn is_home_rule(fault: Option<(Rule, Name)>) -> bool
-    ensures { result ≡ broken.is_home_rule fault }
-{
-    match fault {
-        Some((rule, _)) => rule.number() == RegionRule::OutsideUse.number(),
-        None => false,
-    }
-}
-
-// Whether one of these functions leaves others without regions: it is too large, or used outside of the loop at which it is computed.
-fn leave_some<'a>(
-    alloc: Global,
-    all: &[Stored<'a>],
-    stored: &[Stored<'a>],
-) -> Result<bool, AllocError>
-    ensures { IfOk result (λ yes. yes ≡ list_any (broken.leaves (map stored_of all.now)) (map stored_of stored.now)) }
-{
-    match stored {
-        [] => Ok(false),
-        [one, rest @ ..] => {
-            if is_large(one) || has_outside_use(alloc, all, one)? {
-                return Ok(true);
-            }
-            leave_some(alloc, all, rest)
-        }
-    }
-}
-
-// Whether some function leaves others without regions: it is computed at no loop that is there, too large, or used outside of the
-// loop at which it is computed.
-fn leaves_some(
-    alloc: Global,
-    stored: &[Stored<'_>],
-    fault: Option<(Rule, Name)>,
-) -> Result<bool, AllocError>
-    ensures { IfOk result (λ yes. yes ≡ broken.leaves_some (map stored_of stored.now) fault) }
-{
-    if is_home_rule(fault) {
-        return Ok(true);
-    }
-    leave_some(alloc, stored, stored)
-}
-
-// The same, where of whole functions only one that is too large does.
-fn leaves_others(
-    alloc: Global,
-    stored: &[Stored<'_>],
-    fault: Option<(Rule, Name)>,
-) -> Result<bool, AllocError>
-    ensures { IfOk result (λ yes. yes ≡ broken.leaves_others (map stored_of stored.now) fault) }
-{
-    if are_whole(stored) {
-        return Ok(has_large(stored));
-    }
-    leaves_some(alloc, stored, fault)
 }
 
 /// The first of so many functions, in the order of declaration, that breaks a rule, with the rule of the lowest number; behind
@@ -617,15 +542,16 @@ pub(crate) fn first_fault(
 ) -> Result<Option<(RegionRule, Name)>, AllocError>
     ensures sizes { IfOk result (Finds (map stored_of stored.now) count) }
     ensures first { IfOk result (λ found. found ≡ broken.first_from (algorithm_of algo.now) (map stored_of stored.now) (map inside_at parties.now)
-        (broken.leaves_others (map stored_of stored.now) fault) faults.no_totals (take count (map stored_of stored.now)) (map (option_map laid_of) laid.now)) }
+        (broken.calls_left (algorithm_of algo.now) (map stored_of stored.now) fault) faults.no_totals
+        (take count (map stored_of stored.now)) (map (option_map laid_of) laid.now)) }
     ensures uses { IfOk result (FindsUse (map stored_of stored.now) (map stored_of stored.now) count) }
 {
-    let is_missed = leaves_others(alloc, stored, fault)?;
+    let left = calls_left(alloc, &*algo, &*stored, &fault, &*stored)?;
     let totals = Totals {
         cells: 0,
         pieces: 0,
     };
     fault_from(
-        alloc, algo, stored, parties, count, is_missed, totals, stored, laid,
+        alloc, algo, stored, parties, count, &left, totals, stored, laid,
     )
 }

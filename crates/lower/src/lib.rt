@@ -15,6 +15,7 @@ mod group;
 mod guarded;
 mod inner;
 pub mod inside;
+mod lacking;
 pub mod laws;
 mod legality;
 mod loading;

@@ -18,7 +18,7 @@ ghost use Rattle.lower.specs.Groups.{AreAlone, AreBodies, AreGroupsMade, AreMade
 ghost use Rattle.lower.specs.Groups.{AreBodiesBy, AreFoundOf, AreKnown, AreOverRegions, GroupBy, GroupsBy, IsKeptPlan, IsKnown, all_rooted, inside_at, placed_of as inners_of, rounds};
 ghost use Rattle.lower.specs.Homes.{AreAllAtHome};
 ghost use Rattle.lower.specs.Planned.{TellsOf, first_unplanned, unplanned_at, unplanned_over};
-ghost use Rattle.lower.specs.Refused.{Answers, AnswersBy, AnswersFrom, AreSmall, AreRegionsKept, AreUsesInside, IsFirstOver, IsNoneOver, IsRefused, IsUnplanned};
+ghost use Rattle.lower.specs.Refused.{Answers, AnswersBy, AnswersFrom, AreSmall, AreRegionsKept, AreUsesInside, IsFirstOver, IsNoneOver, IsRefused};
 
 use crate::definitions::{Stored, stored_functions};
 use crate::error::{LowerError, Stop};
@@ -71,7 +71,7 @@ fn empty_certificate(alloc: Global) -> Cert
 }
 
 // The group of a root function; without bounds it breaks L12. What needs, claims and windows a certificate has of it is added.
-#[tactic(auto, using(crate::proofs::Rooted::alone_at, crate::proofs::Rooted::alone_known, crate::proofs::Grouped::of_party, crate::proofs::Grouped::is_known))]
+#[tactic(auto, using(crate::proofs::Rooted::alone_at, crate::proofs::Rooted::alone_known, crate::proofs::Grouped::of_party, crate::proofs::Grouped::is_known, crate::proofs::Unplanned::planned_there, crate::proofs::Unplanned::unplanned_there, crate::proofs::Unplanned::missing_there))]
 fn group_at<'a>(
     alloc: Global,
     algo: &Algo,
@@ -87,8 +87,7 @@ fn group_at<'a>(
         made.line (party_of party.now) certificate.old.claims.items certificate.new.claims.items certificate.old.needs.items
         certificate.new.needs.items made.group) }
     ensures windows { IfOk result (λ made. IsAlone party.now → certificate.new.windows.items ≡ certificate.old.windows.items) }
-    ensures unplanned { IfErr result IsUnplanned }
-    ensures told { IsAlone party.now → TellsOf result (unplanned_at (algorithm_of algo.now) (map root_of roots.now) beginning.number (party_of party.now)) }
+    ensures told { TellsOf result (unplanned_at (algorithm_of algo.now) (map root_of roots.now) beginning.number (inside_at party.now) (party_of party.now)) }
     ensures by { IfOk result (λ made. GroupBy (algorithm_of algo.now) (map root_of roots.now) beginning.number beginning.claim beginning.line made.line
         (inners_of party.now) (party_of party.now) made.group certificate.old certificate.new) }
     ensures known { IfOk result (λ _. IsKnown party.now.inners) }
@@ -148,8 +147,7 @@ fn groups_from<'a>(
         (map party_of parties.now) v.0.items certificate.old.claims.items certificate.new.claims.items
         certificate.old.needs.items certificate.new.needs.items) }
     ensures windows { IfOk result (λ v. AreAlone parties.now → certificate.new.windows.items ≡ certificate.old.windows.items) }
-    ensures unplanned { IfErr result IsUnplanned }
-    ensures told { AreAlone parties.now → TellsOf result (first_unplanned (algorithm_of algo.now) (map root_of roots.now) beginning.number
+    ensures told { TellsOf result (first_unplanned (algorithm_of algo.now) (map root_of roots.now) beginning.number (map inside_at parties.now)
         (map party_of parties.now)) }
     ensures by { IfOk result (λ v. GroupsBy (algorithm_of algo.now) (map root_of roots.now) beginning.number beginning.claim beginning.line
         (map inners_of parties.now) (map party_of parties.now) v.0.items certificate.old certificate.new) }
@@ -184,8 +182,7 @@ fn groups_of<'a>(
         (map party_of parties.now) v.0.items
         v.1.claims.items v.1.needs.items) }
     ensures windows { IfOk result (λ v. AreAlone parties.now → v.1.windows.items ≡ []) }
-    ensures unplanned { IfErr result IsUnplanned }
-    ensures told { AreAlone parties.now → TellsOf result (first_unplanned (algorithm_of algo.now) (map root_of roots.now) 0 (map party_of parties.now)) }
+    ensures told { TellsOf result (first_unplanned (algorithm_of algo.now) (map root_of roots.now) 0 (map inside_at parties.now) (map party_of parties.now)) }
     ensures by { IfOk result (λ v. AreBodiesBy (algorithm_of algo.now) (map root_of roots.now) 0 0 4 (map inners_of parties.now)
         (map party_of parties.now) v.0.items
         v.1.claims.items v.1.needs.items v.1.windows.items) }
@@ -271,9 +268,8 @@ fn planned<'a>(
     requires found { AreFoundOf (algorithm_of algo.now) (length (rooted false (map stored_of stored.now) (map (option_map laid_of) laid.now)))
         (rooted false (map stored_of stored.now) (map (option_map laid_of) laid.now)) parties.now }
     ensures made { IfOk result (IsPlanOf (algorithm_of algo.now) (map stored_of stored.now) (map (option_map laid_of) laid.now) parties.now) }
-    ensures unplanned { IfErr result IsUnplanned }
-    ensures told { rooted false (map stored_of stored.now) (map (option_map laid_of) laid.now) ≡ [] →
-        TellsOf result (unplanned_over (algorithm_of algo.now) (map stored_of stored.now) (map (option_map laid_of) laid.now)) }
+    ensures told { TellsOf result (unplanned_over (algorithm_of algo.now) (map stored_of stored.now) (map (option_map laid_of) laid.now)
+        (map inside_at parties.now)) }
 {
     if let Some(name) = unlaid(stored, laid) {
         return Err(LowerError::Broken(RegionRule::Unbounded, name));

@@ -1,10 +1,11 @@
 //! The nests of a group in whose loops functions are computed: at each place of a nest the buffers of those that are stored there,
 //! then the nests of those that are computed there, and then what the nest itself does.
 
-ghost use Rattle.std.specs.Prelude.{◌≡◌, ◌+◌, ◌∷◌, [], IfOk, Some, None, map};
+ghost use Rattle.std.specs.Prelude.{◌+◌, map};
 ghost use Rattle.plan.specs.Lists.{list_statements};
 ghost use Rattle.sched.specs.Skeleton.{nest_seen, skeleton_seen};
 ghost use Rattle.lower.specs.Groups.{root_of};
+ghost use Rattle.lower.specs.Limited.{Gives};
 ghost use Rattle.lower.specs.Renamed.{pair_of};
 ghost use Rattle.lower.specs.Placed as spec;
 
@@ -25,7 +26,8 @@ use plan::Stmt;
 use sched::{Nest, Step};
 use std::alloc::Global;
 
-/// How deep what stands at places of nests may stand inside one another, each step and each function counted.
+/// How deep what stands at places of nests may stand inside one another, each step and each function counted: deeper ones count as
+/// want of memory.
 const MOST_DEPTH: usize = 1 << 16;
 
 /// The place before all nests of a group.
@@ -39,7 +41,7 @@ const OVER_GRID: Spot = Spot {
 
 // The function of this number, with its buffer where that stands here too, if it is computed at a place.
 #[cycle(mixed)]
-#[tactic(auto, using(crate::proofs::Nested::function_here))]
+#[tactic(auto, using(crate::proofs::Nested::function_here, crate::proofs::Nested::function_stops, crate::proofs::Nested::function_stops_later))]
 fn function_at<'a>(
     alloc: Global,
     body: &mut Body<'a>,
@@ -51,11 +53,12 @@ fn function_at<'a>(
     inner: &Inner<'a>,
     names: &[Renaming],
 ) -> Result<Vec<Stmt>, Stop>
-    ensures { IfOk result (λ v. spec.function_at (spec.computed deep (map spec.inner_seen inners.now)) spot (map pair_of names.now) number
-        (spec.inner_seen inner.now) (spec.so_far body.old) ≡ Some (list_statements v.items, spec.so_far body.new)) }
+    ensures { Gives result (λ v. (list_statements v.items, spec.so_far body.new))
+        (spec.function_at (spec.computed deep (map spec.inner_seen inners.now)) spot (map pair_of names.now) number
+        (spec.inner_seen inner.now) (spec.so_far body.old)) }
 {
     let Some(left) = left.checked_sub(1) else {
-        return Err(Stop::Limit);
+        return Err(Stop::Memory);
     };
     if is_same_spot(inner.home, spot) {
         let mut first = own_buffer(alloc, body, spot, number, inner, names)?;
@@ -69,7 +72,7 @@ fn function_at<'a>(
 
 // Those functions before this number, the last first, that are computed at a place.
 #[cycle(mixed)]
-#[tactic(auto, using(crate::proofs::Nested::functions_first, crate::proofs::Nested::functions_none))]
+#[tactic(auto, using(crate::proofs::Nested::functions_first, crate::proofs::Nested::functions_none, crate::proofs::Nested::functions_missing, crate::proofs::Nested::functions_stop, crate::proofs::Nested::functions_stop_later))]
 fn functions_at<'a>(
     alloc: Global,
     body: &mut Body<'a>,
@@ -80,11 +83,12 @@ fn functions_at<'a>(
     count: usize,
     names: &[Renaming],
 ) -> Result<Vec<Stmt>, Stop>
-    ensures { IfOk result (λ v. spec.functions_at (spec.computed deep (map spec.inner_seen inners.now)) (map spec.inner_seen inners.now) spot
-        (map pair_of names.now) (spec.numbers_down count) (spec.so_far body.old) ≡ Some (list_statements v.items, spec.so_far body.new)) }
+    ensures { Gives result (λ v. (list_statements v.items, spec.so_far body.new))
+        (spec.functions_at (spec.computed deep (map spec.inner_seen inners.now)) (map spec.inner_seen inners.now) spot
+        (map pair_of names.now) (spec.numbers_down count) (spec.so_far body.old)) }
 {
     let Some(left) = left.checked_sub(1) else {
-        return Err(Stop::Limit);
+        return Err(Stop::Memory);
     };
     let Some(last) = count.checked_sub(1) else {
         return Ok(Vec::new(alloc));
@@ -100,7 +104,7 @@ fn functions_at<'a>(
 
 // What stands at a place: the buffers of what is computed further inside, and then the functions that are computed there.
 #[cycle(mixed)]
-#[tactic(auto, using(crate::proofs::Nested::all_there))]
+#[tactic(auto, using(crate::proofs::Nested::all_there, crate::proofs::Nested::all_stop, crate::proofs::Nested::all_stop_later))]
 fn all_at<'a>(
     alloc: Global,
     body: &mut Body<'a>,
@@ -110,11 +114,12 @@ fn all_at<'a>(
     spot: Spot,
     names: &[Renaming],
 ) -> Result<Vec<Stmt>, Stop>
-    ensures { IfOk result (λ v. spec.all_at (spec.computed deep (map spec.inner_seen inners.now)) (map spec.inner_seen inners.now) spot
-        (map pair_of names.now) (spec.so_far body.old) ≡ Some (list_statements v.items, spec.so_far body.new)) }
+    ensures { Gives result (λ v. (list_statements v.items, spec.so_far body.new))
+        (spec.all_at (spec.computed deep (map spec.inner_seen inners.now)) (map spec.inner_seen inners.now) spot
+        (map pair_of names.now) (spec.so_far body.old)) }
 {
     let Some(left) = left.checked_sub(1) else {
-        return Err(Stop::Limit);
+        return Err(Stop::Memory);
     };
     let count = inners.len();
     let mut first = buffers_at(alloc, body, inners, spot, count, names)?;
@@ -127,7 +132,7 @@ fn all_at<'a>(
 
 // The next step of a nest around what follows.
 #[cycle(mixed)]
-#[tactic(auto, using(crate::proofs::Nested::step_next))]
+#[tactic(auto, using(crate::proofs::Nested::step_next, crate::proofs::Nested::step_stops))]
 fn step_in<'a>(
     alloc: Global,
     body: &mut Body<'a>,
@@ -142,13 +147,13 @@ fn step_in<'a>(
     steps: &[Step],
     names: &[Renaming],
 ) -> Result<Vec<Stmt>, Stop>
-    ensures { IfOk result (λ v. spec.step_in (spec.walk (spec.computed deep (map spec.inner_seen inners.now)) (map spec.inner_seen inners.now)
+    ensures { Gives result (λ v. (list_statements v.items, spec.so_far body.new))
+        (spec.step_in (spec.walk (spec.computed deep (map spec.inner_seen inners.now)) (map spec.inner_seen inners.now)
         (spec.owner_seen owner.now)
-        definition (nest_seen nest.now) (depth + 1) steps.now) step.now (map pair_of names.now) (spec.so_far body.old)
-        ≡ Some (list_statements v.items, spec.so_far body.new)) }
+        definition (nest_seen nest.now) (depth + 1) steps.now) step.now (map pair_of names.now) (spec.so_far body.old)) }
 {
     let Some(left) = left.checked_sub(1) else {
-        return Err(Stop::Limit);
+        return Err(Stop::Memory);
     };
     let Some(behind) = depth.checked_add(1) else {
         return Err(Stop::Memory);
@@ -162,7 +167,7 @@ fn step_in<'a>(
 
 // From behind so many steps of a nest on: what stands there, and then the next step around what follows, or the store.
 #[cycle(mixed)]
-#[tactic(auto, using(crate::proofs::Nested::walk_on, crate::proofs::Nested::walk_end))]
+#[tactic(auto, using(crate::proofs::Nested::walk_on, crate::proofs::Nested::walk_end, crate::proofs::Nested::walk_stops, crate::proofs::Nested::walk_on_stops, crate::proofs::Nested::walk_end_stops))]
 fn walk<'a>(
     alloc: Global,
     body: &mut Body<'a>,
@@ -176,12 +181,12 @@ fn walk<'a>(
     steps: &[Step],
     names: &[Renaming],
 ) -> Result<Vec<Stmt>, Stop>
-    ensures { IfOk result (λ v. spec.walk (spec.computed deep (map spec.inner_seen inners.now)) (map spec.inner_seen inners.now) (spec.owner_seen owner.now)
-        definition (nest_seen nest.now) depth steps.now (map pair_of names.now) (spec.so_far body.old)
-        ≡ Some (list_statements v.items, spec.so_far body.new)) }
+    ensures { Gives result (λ v. (list_statements v.items, spec.so_far body.new))
+        (spec.walk (spec.computed deep (map spec.inner_seen inners.now)) (map spec.inner_seen inners.now) (spec.owner_seen owner.now)
+        definition (nest_seen nest.now) depth steps.now (map pair_of names.now) (spec.so_far body.old)) }
 {
     let Some(left) = left.checked_sub(1) else {
-        return Err(Stop::Limit);
+        return Err(Stop::Memory);
     };
     let spot = Spot {
         host: owner.host,
@@ -201,7 +206,7 @@ fn walk<'a>(
 
 // The same; what is computed inside is loaded inside alone.
 #[cycle(mixed)]
-#[tactic(auto, using(crate::proofs::Nested::apart_made))]
+#[tactic(auto, using(crate::proofs::Nested::apart_made, crate::proofs::Nested::apart_stops))]
 fn walk_apart<'a>(
     alloc: Global,
     body: &mut Body<'a>,
@@ -215,13 +220,13 @@ fn walk_apart<'a>(
     steps: &[Step],
     names: &[Renaming],
 ) -> Result<Vec<Stmt>, Stop>
-    ensures { IfOk result (λ v. spec.walk_apart (spec.computed deep (map spec.inner_seen inners.now)) (map spec.inner_seen inners.now)
+    ensures { Gives result (λ v. (list_statements v.items, spec.so_far body.new))
+        (spec.walk_apart (spec.computed deep (map spec.inner_seen inners.now)) (map spec.inner_seen inners.now)
         (spec.owner_seen owner.now)
-        definition (nest_seen nest.now) depth steps.now (map pair_of names.now) (spec.so_far body.old)
-        ≡ Some (list_statements v.items, spec.so_far body.new)) }
+        definition (nest_seen nest.now) depth steps.now (map pair_of names.now) (spec.so_far body.old)) }
 {
     let Some(left) = left.checked_sub(1) else {
-        return Err(Stop::Limit);
+        return Err(Stop::Memory);
     };
     let loads = Vec::from_slice(alloc, &body.loads)?;
     let made = walk(
@@ -233,7 +238,7 @@ fn walk_apart<'a>(
 
 // The nests of the definitions from this one on, each with its claim.
 #[cycle(mixed)]
-#[tactic(auto, using(crate::proofs::Nested::nests_first))]
+#[tactic(auto, using(crate::proofs::Nested::nests_first, crate::proofs::Nested::nests_stop, crate::proofs::Nested::nests_unclaimed, crate::proofs::Nested::nests_stop_later))]
 fn nests_from<'a>(
     alloc: Global,
     body: &mut Body<'a>,
@@ -245,12 +250,13 @@ fn nests_from<'a>(
     nests: &[Nest],
     names: &[Renaming],
 ) -> Result<Vec<Stmt>, Stop>
-    ensures { IfOk result (λ v. spec.nests_from (spec.computed deep (map spec.inner_seen inners.now)) (map spec.inner_seen inners.now)
+    ensures { Gives result (λ v. (list_statements v.items, spec.so_far body.new))
+        (spec.nests_from (spec.computed deep (map spec.inner_seen inners.now)) (map spec.inner_seen inners.now)
         (spec.owner_seen owner.now)
-        definition (map nest_seen nests.now) (map pair_of names.now) (spec.so_far body.old) ≡ Some (list_statements v.items, spec.so_far body.new)) }
+        definition (map nest_seen nests.now) (map pair_of names.now) (spec.so_far body.old)) }
 {
     let Some(left) = left.checked_sub(1) else {
-        return Err(Stop::Limit);
+        return Err(Stop::Memory);
     };
     match nests {
         [] => Ok(Vec::new(alloc)),
@@ -283,7 +289,7 @@ fn nests_from<'a>(
 
 // Each turn makes all.
 #[cycle(mixed)]
-#[tactic(auto, using(crate::proofs::Nested::all_made))]
+#[tactic(auto, using(crate::proofs::Nested::all_made, crate::proofs::Nested::all_stops, crate::proofs::Nested::all_stops_later))]
 fn all_turns<'a>(
     alloc: Global,
     body: &mut Body<'a>,
@@ -295,11 +301,12 @@ fn all_turns<'a>(
     inner: &Inner<'a>,
     names: &[Renaming],
 ) -> Result<Vec<Stmt>, Stop>
-    ensures { IfOk result (λ v. spec.all_turns (spec.computed deep (map spec.inner_seen inners.now)) (map spec.inner_seen inners.now) buffer number
-        (spec.inner_seen inner.now) (map pair_of names.now) (spec.so_far body.old) ≡ Some (list_statements v.items, spec.so_far body.new)) }
+    ensures { Gives result (λ v. (list_statements v.items, spec.so_far body.new))
+        (spec.all_turns (spec.computed deep (map spec.inner_seen inners.now)) (map spec.inner_seen inners.now) buffer number
+        (spec.inner_seen inner.now) (map pair_of names.now) (spec.so_far body.old)) }
 {
     let Some(left) = left.checked_sub(1) else {
-        return Err(Stop::Limit);
+        return Err(Stop::Memory);
     };
     let (mut first, names) = lets(alloc, body, &inner.lets, names)?;
     let owner = Owner {
@@ -336,11 +343,12 @@ fn arm<'a>(
     nest: &Nest,
     names: &[Renaming],
 ) -> Result<Vec<Stmt>, Stop>
-    ensures { IfOk result (λ v. spec.arm (spec.computed deep (map spec.inner_seen inners.now)) (map spec.inner_seen inners.now) (spec.owner_seen owner.now)
-        (nest_seen nest.now) (map pair_of names.now) (spec.so_far body.old) ≡ Some (list_statements v.items, spec.so_far body.new)) }
+    ensures { Gives result (λ v. (list_statements v.items, spec.so_far body.new))
+        (spec.arm (spec.computed deep (map spec.inner_seen inners.now)) (map spec.inner_seen inners.now) (spec.owner_seen owner.now)
+        (nest_seen nest.now) (map pair_of names.now) (spec.so_far body.old)) }
 {
     let Some(left) = left.checked_sub(1) else {
-        return Err(Stop::Limit);
+        return Err(Stop::Memory);
     };
     add_lines(body, 1)?;
     let count = let_count(&nest.steps)?;
@@ -354,7 +362,7 @@ fn arm<'a>(
 
 // The nest of the first turn, which makes all, and that of the others, which makes what is new.
 #[cycle(mixed)]
-#[tactic(auto, using(crate::proofs::Nested::arms_made))]
+#[tactic(auto, using(crate::proofs::Nested::arms_made, crate::proofs::Nested::arms_stop, crate::proofs::Nested::arms_stop_later))]
 fn arms<'a>(
     alloc: Global,
     body: &mut Body<'a>,
@@ -367,12 +375,13 @@ fn arms<'a>(
     whole: &[Renaming],
     anew: &[Renaming],
 ) -> Result<Vec<Stmt>, Stop>
-    ensures { IfOk result (λ v. spec.arms (spec.computed deep (map spec.inner_seen inners.now)) (map spec.inner_seen inners.now)
+    ensures { Gives result (λ v. (list_statements v.items, spec.so_far body.new))
+        (spec.arms (spec.computed deep (map spec.inner_seen inners.now)) (map spec.inner_seen inners.now)
         (spec.owner_seen owners.entry.0.now) (spec.owner_seen owners.entry.1.now) (nest_seen nests.entry.0.now) (nest_seen nests.entry.1.now) symbol
-        (map pair_of whole.now) (map pair_of anew.now) (spec.so_far body.old) ≡ Some (list_statements v.items, spec.so_far body.new)) }
+        (map pair_of whole.now) (map pair_of anew.now) (spec.so_far body.old)) }
 {
     let Some(left) = left.checked_sub(1) else {
-        return Err(Stop::Limit);
+        return Err(Stop::Memory);
     };
     let inside = arm(alloc, body, inners, deep, left, owners.0, nests.0, whole)?;
     let first = Box::new(alloc, block_of(inside))?;
@@ -391,7 +400,7 @@ fn arms<'a>(
 
 // Both nests, behind the lets of both.
 #[cycle(mixed)]
-#[tactic(auto, using(crate::proofs::Nested::first_and_later_made))]
+#[tactic(auto, using(crate::proofs::Nested::first_and_later_made, crate::proofs::Stopped::unnamed_stops, crate::proofs::Stopped::let_missing, crate::proofs::Stopped::first_lets_missing, crate::proofs::Stopped::new_lets_missing, crate::proofs::Stopped::arms_missing))]
 fn first_and_later<'a>(
     alloc: Global,
     body: &mut Body<'a>,
@@ -403,13 +412,14 @@ fn first_and_later<'a>(
     nests: (&Nest, &Nest),
     names: &[Renaming],
 ) -> Result<Vec<Stmt>, Stop>
-    ensures { IfOk result (λ v. spec.first_and_later (spec.computed deep (map spec.inner_seen inners.now)) (map spec.inner_seen inners.now)
+    ensures { Gives result (λ v. (list_statements v.items, spec.so_far body.new))
+        (spec.first_and_later (spec.computed deep (map spec.inner_seen inners.now)) (map spec.inner_seen inners.now)
         (spec.owner_seen owners.entry.0.now) (spec.owner_seen owners.entry.1.now) (spec.later_seen later.now)
         (nest_seen nests.entry.0.now) (nest_seen nests.entry.1.now)
-        (map pair_of names.now) (spec.so_far body.old) ≡ Some (list_statements v.items, spec.so_far body.new)) }
+        (map pair_of names.now) (spec.so_far body.old)) }
 {
     let Some(left) = left.checked_sub(1) else {
-        return Err(Stop::Limit);
+        return Err(Stop::Memory);
     };
     let symbol = name_in(names, later.symbol)?;
     let (mut all, anew) = first_let(alloc, body, later, names)?;
@@ -426,7 +436,7 @@ fn first_and_later<'a>(
 
 // Then one claim, and one window.
 #[cycle(mixed)]
-#[tactic(auto, using(crate::proofs::Nested::sliding_made))]
+#[tactic(auto, using(crate::proofs::Nested::sliding_made, crate::proofs::Stopped::turns_missing, crate::proofs::Stopped::claim_missing, crate::proofs::Stopped::window_missing))]
 fn sliding_turns<'a>(
     alloc: Global,
     body: &mut Body<'a>,
@@ -439,12 +449,12 @@ fn sliding_turns<'a>(
     later: &Later,
     names: &[Renaming],
 ) -> Result<Vec<Stmt>, Stop>
-    ensures { IfOk result (λ v. spec.sliding_turns (spec.computed deep (map spec.inner_seen inners.now)) (map spec.inner_seen inners.now) buffer number
-        (spec.inner_seen inner.now) (spec.later_seen later.now) (map pair_of names.now) (spec.so_far body.old)
-        ≡ Some (list_statements v.items, spec.so_far body.new)) }
+    ensures { Gives result (λ v. (list_statements v.items, spec.so_far body.new))
+        (spec.sliding_turns (spec.computed deep (map spec.inner_seen inners.now)) (map spec.inner_seen inners.now) buffer number
+        (spec.inner_seen inner.now) (spec.later_seen later.now) (map pair_of names.now) (spec.so_far body.old)) }
 {
     let Some(left) = left.checked_sub(1) else {
-        return Err(Stop::Limit);
+        return Err(Stop::Memory);
     };
     let Some(all) = inner.nests.get(0) else {
         return Err(Stop::Limit);
@@ -482,7 +492,7 @@ fn sliding_turns<'a>(
 
 // The nests of the function of this number, inside these names.
 #[cycle(mixed)]
-#[tactic(auto, using(crate::proofs::Nested::computed_all, crate::proofs::Nested::computed_sliding))]
+#[tactic(auto, using(crate::proofs::Nested::computed_all, crate::proofs::Nested::computed_sliding, crate::proofs::Nested::computed_too_deep, crate::proofs::Nested::computed_unseated))]
 fn computed<'a>(
     alloc: Global,
     body: &mut Body<'a>,
@@ -493,12 +503,12 @@ fn computed<'a>(
     inner: &Inner<'a>,
     names: &[Renaming],
 ) -> Result<Vec<Stmt>, Stop>
-    ensures { IfOk result (λ v. spec.computed deep (map spec.inner_seen inners.now) number (spec.inner_seen inner.now) (map pair_of names.now)
-        (spec.so_far body.old)
-        ≡ Some (list_statements v.items, spec.so_far body.new)) }
+    ensures { Gives result (λ v. (list_statements v.items, spec.so_far body.new))
+        (spec.computed deep (map spec.inner_seen inners.now) number (spec.inner_seen inner.now) (map pair_of names.now)
+        (spec.so_far body.old)) }
 {
     let Some(left) = left.checked_sub(1) else {
-        return Err(Stop::Limit);
+        return Err(Stop::Memory);
     };
     let Some(below) = deep.checked_sub(1) else {
         return Err(Stop::Limit);
@@ -519,7 +529,7 @@ fn computed<'a>(
 // ---- the group's own function
 
 /// The nests of a group's own function, in which others are computed, and what is computed before them.
-#[tactic(auto, using(crate::proofs::Nested::group_made))]
+#[tactic(auto, using(crate::proofs::Nested::group_made, crate::proofs::Nested::group_stops, crate::proofs::Nested::group_stops_later))]
 pub(crate) fn mixed_nests<'a>(
     alloc: Global,
     body: &mut Body<'a>,
@@ -527,8 +537,9 @@ pub(crate) fn mixed_nests<'a>(
     root: &Root<'a>,
     claimed: &Region,
 ) -> Result<Vec<Stmt>, Stop>
-    ensures { IfOk result (λ v. spec.nests_over_grid (map spec.inner_seen inners.now) (spec.group_owner (root_of root.now) claimed.now)
-        (skeleton_seen root.now.laid.now.skeleton) (spec.so_far body.old) ≡ Some (list_statements v.items, spec.so_far body.new)) }
+    ensures { Gives result (λ v. (list_statements v.items, spec.so_far body.new))
+        (spec.nests_over_grid (map spec.inner_seen inners.now) (spec.group_owner (root_of root.now) claimed.now)
+        (skeleton_seen root.now.laid.now.skeleton) (spec.so_far body.old)) }
 {
     let names = own_names(alloc, symbols_over(root)?)?;
     let owner = Owner {

@@ -8,6 +8,7 @@ ghost use Rattle.sched.specs.declared.skeleton.Step.TheVariants.{Named};
 ghost use Rattle.sched.specs.Skeleton.{nest_seen};
 ghost use Rattle.lower.specs.Loading.{load_of};
 ghost use Rattle.lower.specs.Bodies.{own_lines};
+ghost use Rattle.lower.specs.Limited.{Gives};
 ghost use Rattle.lower.specs.Renamed.{last_value, pair_of, step_renamed};
 ghost use Rattle.lower.specs.Placed as spec;
 
@@ -132,7 +133,7 @@ pub(crate) fn last_seat(found: Option<u64>, seats: &[Seat], number: usize) -> Op
 // ---- statements
 
 // The store of a definition at these coordinates, its calls as loads.
-#[tactic(auto, using(crate::proofs::Nested::store_made))]
+#[tactic(auto, using(crate::proofs::Nested::store_made, crate::proofs::Nested::store_unknown, crate::proofs::Nested::store_unindexed))]
 fn store_in(
     alloc: Global,
     owner: &Owner<'_, '_>,
@@ -140,7 +141,7 @@ fn store_in(
     definition: usize,
     at: &[Option<Lin>],
 ) -> Result<Stmt, Stop>
-    ensures { IfOk result (λ store. spec.store_in (spec.owner_seen owner.now) (map load_of loads.now) definition at.now ≡ Some (statement_of store)) }
+    ensures { Gives result statement_of (spec.store_in (spec.owner_seen owner.now) (map load_of loads.now) definition at.now) }
 {
     let Some(formula) = owner.root.formulas.get(definition) else {
         return Err(Stop::Limit);
@@ -166,8 +167,8 @@ pub(crate) fn stored(
     nest: &Nest,
     names: &[Renaming],
 ) -> Result<Vec<Stmt>, Stop>
-    ensures { IfOk result (λ v. spec.stored (spec.owner_seen owner.now) definition (nest_seen nest.now) (map pair_of names.now) (spec.so_far body.old)
-        ≡ Some (list_statements v.items, spec.so_far body.new)) }
+    ensures { Gives result (λ v. (list_statements v.items, spec.so_far body.new))
+        (spec.stored (spec.owner_seen owner.now) definition (nest_seen nest.now) (map pair_of names.now) (spec.so_far body.old)) }
 {
     let at = renamed_coordinates(alloc, names, &nest.at)?;
     let store = store_in(alloc, owner, &body.loads, definition, &at)?;
@@ -184,7 +185,7 @@ pub(crate) fn claim<'a>(
     definition: usize,
     names: &[Renaming],
 ) -> Result<(), Stop>
-    ensures { OnOk result (spec.claimed (spec.owner_seen owner.now) definition (map pair_of names.now) (spec.so_far body.old) ≡ Some (spec.so_far body.new)) }
+    ensures { Gives result (λ _. spec.so_far body.new) (spec.claimed (spec.owner_seen owner.now) definition (map pair_of names.now) (spec.so_far body.old)) }
 {
     let region = renamed_region(alloc, names, owner.claimed)?;
     let number = body.next_claim;
@@ -217,8 +218,8 @@ fn seated(
     inner: &Inner<'_>,
     names: &[Renaming],
 ) -> Result<Vec<Stmt>, Stop>
-    ensures { IfOk result (λ v. spec.seated number (spec.inner_seen inner.now) (map pair_of names.now) (spec.so_far body.old)
-        ≡ Some (list_statements v.items, spec.so_far body.new)) }
+    ensures { Gives result (λ v. (list_statements v.items, spec.so_far body.new))
+        (spec.seated number (spec.inner_seen inner.now) (map pair_of names.now) (spec.so_far body.old)) }
 {
     let places = renamed_places(alloc, names, &inner.places)?;
     let function = String::from_str(alloc, inner.root.stored.subject.name.as_str())?;
@@ -288,8 +289,8 @@ fn buffer_at(
     inner: &Inner<'_>,
     names: &[Renaming],
 ) -> Result<Vec<Stmt>, Stop>
-    ensures { IfOk result (λ v. spec.buffer_at spot (map pair_of names.now) number (spec.inner_seen inner.now) (spec.so_far body.old)
-        ≡ Some (list_statements v.items, spec.so_far body.new)) }
+    ensures { Gives result (λ v. (list_statements v.items, spec.so_far body.new))
+        (spec.buffer_at spot (map pair_of names.now) number (spec.inner_seen inner.now) (spec.so_far body.old)) }
 {
     if is_same_spot(inner.store, spot) && !is_same_spot(inner.home, spot) {
         seated(alloc, body, number, inner, names)
@@ -299,7 +300,7 @@ fn buffer_at(
 }
 
 /// The buffers of those functions before this number, the last first, that are stored at a place and computed further inside.
-#[tactic(auto, using(crate::proofs::Nested::buffers_first, crate::proofs::Nested::buffers_none))]
+#[tactic(auto, using(crate::proofs::Nested::buffers_first, crate::proofs::Nested::buffers_none, crate::proofs::Nested::buffers_missing, crate::proofs::Nested::buffers_stop, crate::proofs::Nested::buffers_stop_later))]
 pub(crate) fn buffers_at(
     alloc: Global,
     body: &mut Body<'_>,
@@ -308,8 +309,8 @@ pub(crate) fn buffers_at(
     count: usize,
     names: &[Renaming],
 ) -> Result<Vec<Stmt>, Stop>
-    ensures { IfOk result (λ v. spec.buffers_at (map spec.inner_seen inners.now) spot (map pair_of names.now) (spec.numbers_down count) (spec.so_far body.old)
-        ≡ Some (list_statements v.items, spec.so_far body.new)) }
+    ensures { Gives result (λ v. (list_statements v.items, spec.so_far body.new))
+        (spec.buffers_at (map spec.inner_seen inners.now) spot (map pair_of names.now) (spec.numbers_down count) (spec.so_far body.old)) }
 {
     let Some(last) = count.checked_sub(1) else {
         return Ok(Vec::new(alloc));
@@ -332,8 +333,8 @@ pub(crate) fn own_buffer(
     inner: &Inner<'_>,
     names: &[Renaming],
 ) -> Result<Vec<Stmt>, Stop>
-    ensures { IfOk result (λ v. spec.own_buffer spot (map pair_of names.now) number (spec.inner_seen inner.now) (spec.so_far body.old)
-        ≡ Some (list_statements v.items, spec.so_far body.new)) }
+    ensures { Gives result (λ v. (list_statements v.items, spec.so_far body.new))
+        (spec.own_buffer spot (map pair_of names.now) number (spec.inner_seen inner.now) (spec.so_far body.old)) }
 {
     if is_same_spot(inner.store, spot) {
         seated(alloc, body, number, inner, names)
@@ -352,7 +353,8 @@ pub(crate) fn begun(
     names: &[Renaming],
 ) -> Result<(Vec<Renaming>, Step), Stop>
     ensures names { IfOk result (λ v. map pair_of v.0.items ≡ spec.with_name (spec.bound_by step.now) (spec.so_far body.old).symbol (map pair_of names.now)) }
-    ensures told { IfOk result (λ v. step_renamed (map pair_of v.0.items) step.now ≡ Some v.1) }
+    ensures told { Gives result (λ v. v.1)
+        (step_renamed (spec.with_name (spec.bound_by step.now) (spec.so_far body.old).symbol (map pair_of names.now)) step.now) }
     ensures counted { OnOk result (spec.so_far body.new ≡ spec.with_lines 1 (spec.with_symbol (spec.bound_by step.now) (spec.so_far body.old))) }
 {
     let bound = bound_by(step);
@@ -369,24 +371,24 @@ pub(crate) fn ended(
     body: &mut Body<'_>,
     told: &Step,
     inside: Vec<Stmt>,
-) -> Result<Vec<Stmt>, Stop>
+) -> Result<Vec<Stmt>, AllocError>
     ensures made { IfOk result (λ v. list_statements v.items ≡ spec.around told.now (list_statements inside.items)) }
     ensures counted { OnOk result (spec.so_far body.new ≡ spec.with_lines (own_lines told.now - 1) (spec.so_far body.old)) }
 {
     add_lines(body, own_lines(told).saturating_sub(1))?;
-    Ok(with_step(alloc, told, inside)?)
+    with_step(alloc, told, inside)
 }
 
 /// Some lets, with the names behind them.
-#[tactic(auto, using(crate::proofs::Nested::let_next))]
+#[tactic(auto, using(crate::proofs::Nested::let_next, crate::proofs::Nested::let_stops))]
 pub(crate) fn lets(
     alloc: Global,
     body: &mut Body<'_>,
     steps: &[Step],
     names: &[Renaming],
 ) -> Result<(Vec<Stmt>, Vec<Renaming>), Stop>
-    ensures { IfOk result (λ v. spec.lets steps.now (map pair_of names.now) (spec.so_far body.old)
-        ≡ Some (list_statements v.0.items, (map pair_of v.1.items, spec.so_far body.new))) }
+    ensures { Gives result (λ v. (list_statements v.0.items, (map pair_of v.1.items, spec.so_far body.new)))
+        (spec.lets steps.now (map pair_of names.now) (spec.so_far body.old)) }
 {
     match steps {
         [] => Ok((Vec::new(alloc), Vec::from_slice(alloc, names)?)),
@@ -399,13 +401,13 @@ pub(crate) fn lets(
 }
 
 /// How many lets stand before the loops.
-pub(crate) fn let_count(steps: &[Step]) -> Result<usize, Stop>
+pub(crate) fn let_count(steps: &[Step]) -> Result<usize, AllocError>
     ensures { IfOk result (λ count. count ≡ spec.let_count steps.now) }
 {
     match steps {
         [Step::Named { .. }, rest @ ..] => match let_count(rest)?.checked_add(1) {
             Some(count) => Ok(count),
-            None => Err(Stop::Memory),
+            None => Err(AllocError),
         },
         _ => Ok(0),
     }
@@ -418,8 +420,8 @@ pub(crate) fn first_lets(
     nest: &Nest,
     names: &[Renaming],
 ) -> Result<(Vec<Stmt>, Vec<Renaming>), Stop>
-    ensures { IfOk result (λ v. spec.first_lets (nest_seen nest.now) (map pair_of names.now) (spec.so_far body.old)
-        ≡ Some (list_statements v.0.items, (map pair_of v.1.items, spec.so_far body.new))) }
+    ensures { Gives result (λ v. (list_statements v.0.items, (map pair_of v.1.items, spec.so_far body.new)))
+        (spec.first_lets (nest_seen nest.now) (map pair_of names.now) (spec.so_far body.old)) }
 {
     let Some(steps) = nest.steps.get(..let_count(&nest.steps)?) else {
         return Err(Stop::Limit);
@@ -444,8 +446,9 @@ pub(crate) fn first_let(
     later: &Later,
     names: &[Renaming],
 ) -> Result<(Vec<Stmt>, Vec<Renaming>), Stop>
-    ensures { IfOk result (λ v. spec.lets (Named (spec.later_seen later.now).new Min (spec.later_seen later.now).first_new ∷ []) (map pair_of names.now)
-        (spec.so_far body.old) ≡ Some (list_statements v.0.items, (map pair_of v.1.items, spec.so_far body.new))) }
+    ensures { Gives result (λ v. (list_statements v.0.items, (map pair_of v.1.items, spec.so_far body.new)))
+        (spec.lets (Named (spec.later_seen later.now).new Min (spec.later_seen later.now).first_new ∷ []) (map pair_of names.now)
+        (spec.so_far body.old)) }
 {
     let step = first_step(alloc, later)?;
     lets(alloc, body, slice::from_ref(&step), names)
@@ -471,8 +474,8 @@ pub(crate) fn hold(
     later: &Later,
     names: &[Renaming],
 ) -> Result<(), Stop>
-    ensures { OnOk result (spec.held (spec.inner_seen inner.now) (spec.later_seen later.now) (map pair_of names.now) (spec.so_far body.old)
-        ≡ Some (spec.so_far body.new)) }
+    ensures { Gives result (λ _. spec.so_far body.new)
+        (spec.held (spec.inner_seen inner.now) (spec.later_seen later.now) (map pair_of names.now) (spec.so_far body.old)) }
 {
     let Some(span) = inner.region.as_slice().get(later.dimension) else {
         return Err(Stop::Limit);

@@ -1,6 +1,8 @@
 //! Forms, spans and steps under other names of their symbols.
 
-ghost use Rattle.std.specs.Prelude.{◌≡◌, Some, None, [], IfOk, map};
+ghost use Rattle.std.specs.Prelude.{◌≡◌, None, [], IfOk, map};
+ghost use Rattle.lin.specs.Forms.{combined};
+ghost use Rattle.lower.specs.Limited.{Gives};
 ghost use Rattle.lower.specs.Renamed as spec;
 
 use crate::error::Stop;
@@ -34,7 +36,7 @@ fn last_name(found: Option<Sym>, names: &[Renaming], symbol: Sym) -> Option<Sym>
 
 /// The last name of a symbol. A limit is passed where it has none.
 pub(crate) fn name_in(names: &[Renaming], symbol: Sym) -> Result<Sym, Stop>
-    ensures { IfOk result (λ name. spec.value_in (map spec.pair_of names.now) symbol ≡ Some name) }
+    ensures { Gives result (λ name. name) (spec.value_in (map spec.pair_of names.now) symbol) }
 {
     match last_name(None, names, symbol) {
         Some(name) => Ok(name),
@@ -58,21 +60,32 @@ pub(crate) fn own_names(alloc: Global, count: Sym) -> Result<Vec<Renaming>, Allo
     Ok(names)
 }
 
+// The form and a multiple of a symbol more.
+#[tactic(auto, using(crate::proofs::Stops::form_gives))]
+fn with_multiple(alloc: Global, made: &Lin, factor: i64, name: Sym) -> Result<Lin, Stop>
+    ensures { Gives result (λ all. all) (combined made.now factor (spec.symbol name)) }
+{
+    let symbol = Lin::symbol(alloc, name)?;
+    match made.plus_multiple(alloc, factor, &symbol) {
+        Ok(all) => Ok(all),
+        Err(error) => Err(Stop::from(error)),
+    }
+}
+
 // The form and these multiples, under the names of their symbols.
-#[tactic(auto, using(crate::proofs::Renames::term_first))]
 fn renamed_terms(
     alloc: Global,
     names: &[Renaming],
     terms: &[Multiple],
     made: Lin,
 ) -> Result<Lin, Stop>
-    ensures { IfOk result (λ form. spec.terms_renamed (map spec.pair_of names.now) terms.now made ≡ Some form) }
+    ensures { Gives result (λ form. form) (spec.terms_renamed (map spec.pair_of names.now) terms.now made) }
 {
     match terms {
         [] => Ok(made),
         [term, rest @ ..] => {
-            let symbol = Lin::symbol(alloc, name_in(names, term.symbol)?)?;
-            let next = made.plus_multiple(alloc, term.factor, &symbol)?;
+            let name = name_in(names, term.symbol)?;
+            let next = with_multiple(alloc, &made, term.factor, name)?;
             renamed_terms(alloc, names, rest, next)
         }
     }
@@ -80,7 +93,7 @@ fn renamed_terms(
 
 /// The form under the names of its symbols.
 pub(crate) fn renamed(alloc: Global, names: &[Renaming], form: &Lin) -> Result<Lin, Stop>
-    ensures { IfOk result (λ made. spec.form_renamed (map spec.pair_of names.now) form.now ≡ Some made) }
+    ensures { Gives result (λ made. made) (spec.form_renamed (map spec.pair_of names.now) form.now) }
 {
     renamed_terms(
         alloc,
@@ -91,14 +104,13 @@ pub(crate) fn renamed(alloc: Global, names: &[Renaming], form: &Lin) -> Result<L
 }
 
 // Some forms, and these behind them.
-#[tactic(auto, using(crate::proofs::Renames::behind_first))]
 fn renamed_behind(
     alloc: Global,
     names: &[Renaming],
     made: Forms,
     forms: &[Lin],
 ) -> Result<Forms, Stop>
-    ensures { IfOk result (λ all. spec.behind (spec.form_renamed (map spec.pair_of names.now)) made forms.now ≡ Some all) }
+    ensures { Gives result (λ all. all) (spec.behind (spec.form_renamed (map spec.pair_of names.now)) made forms.now) }
 {
     match forms {
         [] => Ok(made),
@@ -112,15 +124,14 @@ fn renamed_behind(
 
 /// The same of forms.
 pub(crate) fn renamed_forms(alloc: Global, names: &[Renaming], forms: &Forms) -> Result<Forms, Stop>
-    ensures { IfOk result (λ made. spec.forms_renamed (map spec.pair_of names.now) forms.now ≡ Some made) }
+    ensures { Gives result (λ made. made) (spec.forms_renamed (map spec.pair_of names.now) forms.now) }
 {
     renamed_behind(alloc, names, Forms::new(alloc), forms.as_slice())
 }
 
 /// The same of a span.
-#[tactic(auto, using(crate::proofs::Renames::span_made))]
 pub(crate) fn renamed_span(alloc: Global, names: &[Renaming], span: &Span1) -> Result<Span1, Stop>
-    ensures { IfOk result (λ made. spec.span_renamed (map spec.pair_of names.now) span.now ≡ Some made) }
+    ensures { Gives result (λ made. made) (spec.span_renamed (map spec.pair_of names.now) span.now) }
 {
     let lower = renamed_forms(alloc, names, &span.lower)?;
     let upper = renamed_forms(alloc, names, &span.upper)?;
@@ -128,14 +139,13 @@ pub(crate) fn renamed_span(alloc: Global, names: &[Renaming], span: &Span1) -> R
 }
 
 // Some spans, and these behind them.
-#[tactic(auto, using(crate::proofs::Renames::behind_first))]
 fn spans_behind(
     alloc: Global,
     names: &[Renaming],
     made: Region,
     spans: &[Span1],
 ) -> Result<Region, Stop>
-    ensures { IfOk result (λ all. spec.behind (spec.span_renamed (map spec.pair_of names.now)) made spans.now ≡ Some all) }
+    ensures { Gives result (λ all. all) (spec.behind (spec.span_renamed (map spec.pair_of names.now)) made spans.now) }
 {
     match spans {
         [] => Ok(made),
@@ -153,14 +163,13 @@ pub(crate) fn renamed_region(
     names: &[Renaming],
     region: &Region,
 ) -> Result<Region, Stop>
-    ensures { IfOk result (λ made. spec.region_renamed (map spec.pair_of names.now) region.now ≡ Some made) }
+    ensures { Gives result (λ made. made) (spec.region_renamed (map spec.pair_of names.now) region.now) }
 {
     spans_behind(alloc, names, Region::new(alloc), region.as_slice())
 }
 
-#[tactic(auto, using(crate::proofs::Renames::place_made))]
 fn renamed_place(alloc: Global, names: &[Renaming], place: &Places) -> Result<Places, Stop>
-    ensures { IfOk result (λ made. spec.place_renamed (map spec.pair_of names.now) place.now ≡ Some made) }
+    ensures { Gives result (λ made. made) (spec.place_renamed (map spec.pair_of names.now) place.now) }
 {
     match place {
         Places::From { origin, count } => Ok(Places::From {
@@ -172,14 +181,13 @@ fn renamed_place(alloc: Global, names: &[Renaming], place: &Places) -> Result<Pl
 }
 
 // Some places, and these behind them.
-#[tactic(auto, using(crate::proofs::Renames::behind_first))]
 fn places_behind(
     alloc: Global,
     names: &[Renaming],
     made: Vec<Places>,
     places: &[Places],
 ) -> Result<Vec<Places>, Stop>
-    ensures { IfOk result (λ all. spec.behind (spec.place_renamed (map spec.pair_of names.now)) made.items places.now ≡ Some all.items) }
+    ensures { Gives result (λ all. all.items) (spec.behind (spec.place_renamed (map spec.pair_of names.now)) made.items places.now) }
 {
     match places {
         [] => Ok(made),
@@ -197,15 +205,14 @@ pub(crate) fn renamed_places(
     names: &[Renaming],
     places: &[Places],
 ) -> Result<Vec<Places>, Stop>
-    ensures { IfOk result (λ made. spec.places_renamed (map spec.pair_of names.now) places.now ≡ Some made.items) }
+    ensures { Gives result (λ made. made.items) (spec.places_renamed (map spec.pair_of names.now) places.now) }
 {
     places_behind(alloc, names, Vec::new(alloc), places)
 }
 
 /// The same of a step.
-#[tactic(auto, using(crate::proofs::Renames::turns_made, crate::proofs::Renames::let_made, crate::proofs::Renames::guard_made))]
 pub(crate) fn renamed_step(alloc: Global, names: &[Renaming], step: &Step) -> Result<Step, Stop>
-    ensures { IfOk result (λ made. spec.step_renamed (map spec.pair_of names.now) step.now ≡ Some made) }
+    ensures { Gives result (λ made. made) (spec.step_renamed (map spec.pair_of names.now) step.now) }
 {
     match step {
         Step::Turns { symbol, span, kind } => {
@@ -238,9 +245,8 @@ pub(crate) fn renamed_step(alloc: Global, names: &[Renaming], step: &Step) -> Re
     }
 }
 
-#[tactic(auto, using(crate::proofs::Renames::at_made))]
 fn renamed_at(alloc: Global, names: &[Renaming], form: &Option<Lin>) -> Result<Option<Lin>, Stop>
-    ensures { IfOk result (λ made. spec.at_renamed (map spec.pair_of names.now) form.now ≡ Some made) }
+    ensures { Gives result (λ made. made) (spec.at_renamed (map spec.pair_of names.now) form.now) }
 {
     match form {
         Some(form) => Ok(Some(renamed(alloc, names, form)?)),
@@ -249,14 +255,13 @@ fn renamed_at(alloc: Global, names: &[Renaming], form: &Option<Lin>) -> Result<O
 }
 
 // Some coordinates, and these behind them.
-#[tactic(auto, using(crate::proofs::Renames::behind_first))]
 fn coordinates_behind(
     alloc: Global,
     names: &[Renaming],
     made: Vec<Option<Lin>>,
     at: &[Option<Lin>],
 ) -> Result<Vec<Option<Lin>>, Stop>
-    ensures { IfOk result (λ all. spec.behind (spec.at_renamed (map spec.pair_of names.now)) made.items at.now ≡ Some all.items) }
+    ensures { Gives result (λ all. all.items) (spec.behind (spec.at_renamed (map spec.pair_of names.now)) made.items at.now) }
 {
     match at {
         [] => Ok(made),
@@ -274,7 +279,7 @@ pub(crate) fn renamed_coordinates(
     names: &[Renaming],
     at: &[Option<Lin>],
 ) -> Result<Vec<Option<Lin>>, Stop>
-    ensures { IfOk result (λ made. spec.coordinates_renamed (map spec.pair_of names.now) at.now ≡ Some made.items) }
+    ensures { Gives result (λ made. made.items) (spec.coordinates_renamed (map spec.pair_of names.now) at.now) }
 {
     coordinates_behind(alloc, names, Vec::new(alloc), at)
 }

@@ -1,7 +1,7 @@
 //! Functions with updates in blocks that run past the end of what is needed: what is named before their nests, and of what their
 //! claims speak.
 
-ghost use Rattle.std.specs.Prelude.{◌≡◌, IfOk, IfSome, OnOk, Some, map};
+ghost use Rattle.std.specs.Prelude.{◌≡◌, ◌&&◌, not, IfOk, IfSome, OnOk, Some, map};
 ghost use Rattle.std.specs.List.{list_any};
 ghost use Rattle.std.specs.Option.{option_copied, option_map};
 ghost use Rattle.algo.specs.View.{algorithm_of};
@@ -26,7 +26,7 @@ use crate::scopes::bind_steps;
 use crate::sliding::is_single;
 use crate::storage::stored_from;
 use crate::telling::{has_further, told_span};
-use crate::turns::{has_split_half, nests_begun, nests_over};
+use crate::turns::{has_split_half, is_alone, nests_begun, nests_over};
 use algo::Algo;
 use lin::{Lin, Region, Scope, Span1};
 use sched::{Nest, Split, Step, Tail};
@@ -58,20 +58,20 @@ fn rounding_of(root: &Root<'_>, dimension: usize) -> Option<u32>
     }
 }
 
-/// Whether the split is one of the variable's loop with `roundup`.
-pub(crate) fn is_rounding(cut: &Split, variable: &Name) -> bool
-    ensures { result ≡ demanded.is_rounding variable.now cut.now }
+/// Whether the split is one of the variable's loop with `roundup`, of more than one number or with halves that are split again.
+pub(crate) fn is_rounding(cuts: &[Split], cut: &Split, variable: &Name) -> bool
+    ensures { result ≡ demanded.is_rounding cuts.now variable.now cut.now }
 {
     match cut.tail {
-        Tail::Roundup => cut.whole.as_str() == variable.as_str(),
+        Tail::Roundup => cut.whole.as_str() == variable.as_str() && !is_alone(cuts, cut),
         Tail::Guard | Tail::Shift => false,
     }
 }
 
 fn has_rounding(cuts: &[Split], variable: &Name) -> bool
-    ensures { result ≡ list_any (demanded.is_rounding variable.now) cuts.now }
+    ensures { result ≡ list_any (demanded.is_rounding cuts.now variable.now) cuts.now }
 {
-    cuts.iter().any(|cut| is_rounding(cut, variable))
+    cuts.iter().any(|cut| is_rounding(cuts, cut, variable))
 }
 
 /// Whether the dimension's loop is split with `roundup`.
@@ -514,9 +514,10 @@ fn is_roundup(tail: Tail) -> bool
 }
 
 fn has_roundup(cuts: &[Split]) -> bool
-    ensures { result ≡ list_any (λ c. spec.is_roundup c.tail) cuts.now }
+    ensures { result ≡ list_any (λ c. spec.is_roundup c.tail && not (demanded.is_alone cuts.now c)) cuts.now }
 {
-    cuts.iter().any(|cut| is_roundup(cut.tail))
+    cuts.iter()
+        .any(|cut| is_roundup(cut.tail) && !is_alone(cuts, cut))
 }
 
 // Whether no update of the function may read what its nests make past what is needed.

@@ -6,6 +6,7 @@ ghost use Rattle.std.specs.Option.{option_copied};
 ghost use Rattle.sched.specs.Standing.{form_named as form_named_of};
 ghost use Rattle.sched.specs.Skeleton.{body_of, nest_seen, kept_from, is_missing as is_missing_of, ranges_at as ranges_at_of, variables_at as variables_at_of};
 ghost use Rattle.lower.specs.Broken as broken;
+ghost use Rattle.lower.specs.Demanded as demanded;
 ghost use Rattle.lower.specs.Limited.{Gives, Tells};
 ghost use Rattle.lower.specs.Stored.{formula_of, stored_of};
 ghost use Rattle.lower.specs.Parted as parted;
@@ -228,26 +229,26 @@ fn kept_tail(is_alone: bool, tail: Tail) -> Tail
     match tail {
         Tail::Shift => { if is_alone { Tail::Guard } else { Tail::Shift } }
         Tail::Guard => Tail::Guard,
-        Tail::Roundup => Tail::Roundup,
+        Tail::Roundup => { if is_alone { Tail::Guard } else { Tail::Roundup } }
     }
 }
 
 /// Whether a loop that the split makes is split again.
 pub(crate) fn has_split_half(cuts: &[Split], cut: &Split) -> bool
-    ensures { result ≡ parted.has_split_half cuts.now cut.now }
+    ensures { result ≡ demanded.has_split_half cuts.now cut.now }
 {
     cuts.iter().any(|other| is_half(cut, &other.whole))
 }
 
-// Whether its blocks have one number, and its halves are not split again.
-fn is_alone(cuts: &[Split], cut: &Split) -> bool
-    ensures { result ≡ parted.is_alone cuts.now cut.now }
+/// Whether its blocks have one number, and its halves are not split again.
+pub(crate) fn is_alone(cuts: &[Split], cut: &Split) -> bool
+    ensures { result ≡ demanded.is_alone cuts.now cut.now }
 {
     cut.factor == 1 && !has_split_half(cuts, cut)
 }
 
-// A block of one number begins at no smaller number where `shift` moves it back: it is kept as with `guard`, unless its halves are
-// split again.
+// A block of one number begins at no smaller number where `shift` moves it back, and ends at no greater one under `roundup`: it is
+// kept as with `guard`, unless its halves are split again.
 fn as_kept(cuts: &[Split], cut: &Split) -> Split
     ensures { result ≡ parted.as_kept cuts.now cut.now }
 {

@@ -85,7 +85,7 @@ module _ (a : Algorithm) (p : Plan) (c : Certificate) (g : Group) (o : Outline) 
   tests (For i x kind body) here = record {
     names = is_new here.symbols i && (are_over here.symbols x.lower && are_over here.symbols x.upper);
     forms = are_within_limits x.lower && are_within_limits x.upper;
-    third = fits_mark o.setting.dimensions i kind body;
+    third = fits_mark a o.setting i kind body;
     limits = (is_listed x.lower && is_listed x.upper) && nat_lt here.bound 256;
     code = 13;
   }

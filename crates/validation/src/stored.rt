@@ -8,8 +8,9 @@ mod lines;
 mod small;
 mod stored;
 
-pub use defined::{Defined, definition_of, has_variables, stored_in};
+pub use defined::{Defined, definition_of, has_variables, stored_in, variable_count};
 pub use ground::Ground;
+pub(crate) use known::rest_of;
 pub use known::{has_names, indices_are_known, is_known};
 pub use lines::GroupLines;
 pub use small::is_small;

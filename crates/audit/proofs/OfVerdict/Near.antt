@@ -119,7 +119,7 @@ module _ (a : Algorithm) (p : Plan) (c : Certificate) (g : Group) (o : Outline) 
     has_forms (For i x kind body) here h =
         let k = none_in _ _ h in
         let over = are_over here.symbols x.lower && are_over here.symbols x.upper in
-        let f = fine_loop here.line (is_new here.symbols i && over) (are_within_limits x.lower && are_within_limits x.upper) (fits_mark o.setting.dimensions i kind body)
+        let f = fine_loop here.line (is_new here.symbols i && over) (are_within_limits x.lower && are_within_limits x.upper) (fits_mark a o.setting i kind body)
         ((is_listed x.lower && is_listed x.upper) && nat_lt here.bound 256) k.0 in
         let names = and_parts (is_new here.symbols i) over f.names in
         (span_stands here.symbols x names.1 f.forms, new_symbol here.symbols i names.0, has_forms body (in_loop i here) k.1)

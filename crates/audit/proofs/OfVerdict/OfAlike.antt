@@ -23,7 +23,7 @@ use Rattle.plan.specs.Symbols.{Symbols, bind, form_value, largest, turns, points
 use Rattle.plan.specs.Certificate.Certificate.{Claim, Certificate}
 use Rattle.plan.specs.Certificate.Lines.{own_line, need_line, claim_line, window_line}
 use Rattle.plan.specs.Certificate.Cells.{Cell, Piece, cell, cells, pieces, first_cell, grid_symbols, group_points, no_symbols, own_region, piece_count}
-use Rattle.plan.specs.Semantics.Actions.{after}
+use Rattle.plan.specs.Semantics.Actions.{after, Setting}
 use Rattle.plan.specs.Semantics.Run.{Source, Input, ByClaim, Unknown, source_of}
 use Rattle.plan.specs.Semantics.Setting.{Buffer, allocated}
 use Rattle.soundness.specs.Given.{outline_of, claim_or_none, named_from, function_named}
@@ -258,35 +258,35 @@ mutual
   only_in_same (Then a Empty) = only_same a
   only_in_same (Then a (Then b rest)) = refl
 
-module _ (variables : ℕ → ℕ) (lane : ℕ) where
-  stores_same : (o : Option Statement) → stores_lanes variables lane o ≡ stores_lanes variables lane (one_rolled o)
+module _ (a : Algorithm) (setting : Setting) (lane : ℕ) where
+  stores_same : (o : Option Statement) → stores_lanes a setting lane o ≡ stores_lanes a setting lane (one_rolled o)
   stores_same None = refl
   stores_same (Some (Seq all)) = refl
   stores_same (Some (For i x kind body)) = refl
   stores_same (Some (Let i pick forms)) = refl
-  stores_same (Some (First i a b)) = refl
+  stores_same (Some (First i s r)) = refl
   stores_same (Some (Guard low high body)) = refl
   stores_same (Some (Alloc b f places)) = refl
   stores_same (Some (Fetch b g region)) = refl
   stores_same (Some (Store b k at e)) = refl
   stores_same (Some (Publish c)) = refl
 
-  takes_same : (o : Option Statement) → takes_lanes variables lane o ≡ takes_lanes variables lane (one_rolled o)
+  takes_same : (o : Option Statement) → takes_lanes a setting lane o ≡ takes_lanes a setting lane (one_rolled o)
   takes_same None = refl
   takes_same (Some (Seq all)) = refl
   takes_same (Some (For i x kind body)) = refl
   takes_same (Some (Let i pick forms)) = refl
-  takes_same (Some (First i a b)) = refl
-  takes_same (Some (Guard low high body)) = ap (λ v. admits_lanes lane low high && v) (stores_same (only body) ∙ ap (stores_lanes variables lane) (only_same body))
+  takes_same (Some (First i s r)) = refl
+  takes_same (Some (Guard low high body)) = ap (λ v. admits_lanes lane low high && v) (stores_same (only body) ∙ ap (stores_lanes a setting lane) (only_same body))
   takes_same (Some (Alloc b f places)) = refl
   takes_same (Some (Fetch b g region)) = refl
   takes_same (Some (Store b k at e)) = refl
   takes_same (Some (Publish c)) = refl
 
-  fits_same : (kind : Kind) (body : Statement) → fits_mark variables lane kind body ≡ fits_mark variables lane (rolled_kind kind) (rolled body)
+  fits_same : (kind : Kind) (body : Statement) → fits_mark a setting lane kind body ≡ fits_mark a setting lane (rolled_kind kind) (rolled body)
   fits_same Serial body = refl
   fits_same Unroll body = refl
-  fits_same Vector body = takes_same (only body) ∙ ap (takes_lanes variables lane) (only_same body)
+  fits_same Vector body = takes_same (only body) ∙ ap (takes_lanes a setting lane) (only_same body)
 
 -- ---- what is stored
 
@@ -380,7 +380,7 @@ module _ (a : Algorithm) (p : Plan) (c : Certificate) (g : Group) (outline : Out
     flaws_same (For i x kind body) here =
         λ j. (unless (L.is_new here.symbols i && (are_over here.symbols x.lower && are_over here.symbols x.upper)) 2 here.line
         ++ (unless (are_within_limits x.lower && are_within_limits x.upper) 3 here.line
-        ++ (unless (fits_same outline.setting.dimensions i kind body j) 13 here.line
+        ++ (unless (fits_same a outline.setting i kind body j) 13 here.line
         ++ unless ((is_listed x.lower && is_listed x.upper) && nat_lt here.bound 256) 14 here.line))) ++ flaws_same body (L.in_loop i here) j
     flaws_same (Let i pick forms) here = refl
     flaws_same (First i s t) here =

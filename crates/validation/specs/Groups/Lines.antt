@@ -189,7 +189,7 @@ module _ (a : Algorithm) (p : Plan) (c : Certificate) (g : Group) (outline : Out
   loop_flaws here i x kind body =
       unless (is_new here.symbols i && (are_over here.symbols x.lower && are_over here.symbols x.upper)) 2 here.line
       ++ (unless (are_within_limits x.lower && are_within_limits x.upper) 3 here.line
-      ++ (unless (fits_mark outline.setting.dimensions i kind body) 13 here.line
+      ++ (unless (fits_mark a outline.setting i kind body) 13 here.line
       ++ unless ((is_listed x.lower && is_listed x.upper) && nat_lt here.bound 256) 14 here.line))
 
   abbrev pub alloc_flaws : Here → List ℕ → List Places → List Flaw

@@ -12,7 +12,7 @@ ghost use Rattle.lin.specs.Forms.{is_within_limits as is_limited};
 ghost use Rattle.soundness.specs.Outline.Forms.{are_over, are_within_limits, have_ends, is_listed, is_over as form_is_over};
 ghost use Rattle.soundness.specs.Outline.Flaws.{first_of, told};
 ghost use Rattle.soundness.specs.Outline.View.{certificate_in, group_in, outline_in, plan_in};
-ghost use Rattle.validation.specs.Stored.Definitions.{definition_held, function_in, has_variables as known_with, parts_named};
+ghost use Rattle.validation.specs.Stored.Definitions.{definition_held, has_variables as known_with, parts_named};
 ghost use Rattle.validation.specs.Groups.Sizes.{more, places_count};
 ghost use Rattle.validation.specs.Stored.Sizes.{is_small};
 ghost use Rattle.validation.specs.Groups.Here.{here_of};
@@ -25,7 +25,7 @@ use crate::groups::lanes::fits_mark;
 use crate::groups::sizes::places_count;
 use crate::stored::{
     Defined, Ground, definition_of, has_names, has_variables, indices_are_known, indices_are_small,
-    is_defined, is_known, is_small,
+    is_defined, is_known, is_small, variable_count,
 };
 use algo::scoping::same_name;
 use lin::{Forms, Lin, Span1, Sym};
@@ -96,7 +96,7 @@ fn loop_flaw(
         Some(Flaw { code: K::K2, line })
     } else if !(are_within_limits(lower) && are_within_limits(upper)) {
         Some(Flaw { code: K::K3, line })
-    } else if !fits_mark(ground.outlined, symbol, kind, body) {
+    } else if !fits_mark(ground, symbol, kind, body) {
         Some(Flaw { code: K::K13, line })
     } else if !(is_listed(&span.lower) && is_listed(&span.upper) && here.bound < MOST_SYMBOLS) {
         Some(Flaw { code: K::K14, line })
@@ -313,15 +313,6 @@ fn coordinates_are_within(coordinates: &[Coordinate]) -> bool
         }
     }
     true
-}
-
-/// How many variables the function of the definition has.
-fn variable_count(defined: Defined<'_>) -> usize
-    ensures { result ≡ length (function_in (definition_held defined.entry)).variables }
-{
-    match defined {
-        Defined::Pure(function) | Defined::Update(function, _) => function.variables.len(),
-    }
 }
 
 /// Whether the definition is known, and the store's variables, symbols and calls are.

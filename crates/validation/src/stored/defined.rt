@@ -1,6 +1,6 @@
 //! Functions and definitions that the lines of a plan name.
 
-ghost use Rattle.std.specs.Prelude.{◌≡◌, ◌||◌, IfOk, MatchOption, None, Some, map, slice_get};
+ghost use Rattle.std.specs.Prelude.{◌≡◌, ◌||◌, IfOk, MatchOption, None, Some, length, map, slice_get};
 ghost use Rattle.std.specs.List.{list_any};
 ghost use Rattle.std.specs.Option.{option_map};
 ghost use Rattle.meaning.specs.Conditions.{function_named};
@@ -9,7 +9,7 @@ ghost use Rattle.algo.specs.View.{algorithm_of};
 ghost use Rattle.plan.specs.Lists.{list_groups, list_statements};
 ghost use Rattle.plan.specs.Plan.{block};
 ghost use Rattle.plan.specs.View.{group_of, plan_of, statement_of};
-ghost use Rattle.validation.specs.Stored.Definitions.{parts_of, parts_named, parts_held, definition_in, definition_held, has_variables, allots, block_allots, group_stores, is_stored, stored_in};
+ghost use Rattle.validation.specs.Stored.Definitions.{parts_of, parts_named, parts_held, definition_in, definition_held, function_in, has_variables, allots, block_allots, group_stores, is_stored, stored_in};
 
 use algo::scoping::same_name;
 use algo::{Algo, Function, Update};
@@ -22,6 +22,15 @@ use std::alloc::{AllocError, Global};
 pub enum Defined<'a> {
     Pure(&'a Function),
     Update(&'a Function, &'a Update),
+}
+
+/// How many variables the function of the definition has.
+pub fn variable_count(defined: Defined<'_>) -> usize
+    ensures { result ≡ length (function_in (definition_held defined.entry)).variables }
+{
+    match defined {
+        Defined::Pure(function) | Defined::Update(function, _) => function.variables.len(),
+    }
 }
 
 /// The function of this name among these.

@@ -1,4 +1,4 @@
-use Rattle.std.proofs.Common.{◌≡◌, ℕ, ◌+◌, ◌-◌, List, [], ◌++◌, map, Some, ap, sym, subst, ◌∙◌, arith}
+use Rattle.std.proofs.Common.{rules, ◌≡◌, ℕ, ◌+◌, ◌-◌, List, [], ◌++◌, map, Some, Err, ap, sym, subst, ◌∙◌, arith}
 use Rattle.std.proofs.lemmas.List.{append-nil}
 use Rattle.std.specs.Global.{Vec}
 use Rattle.plan.specs.declared.certificate.cert.Window.{Window}
@@ -12,10 +12,11 @@ use Rattle.lower.specs.Fetches.{fetch_seen}
 use Rattle.algo.specs.View.{algorithm_of}
 use Rattle.lower.specs.Making.{NestsMade, BodyMade}
 use Rattle.lower.specs.Groups.{root_of}
-use Rattle.lower.specs.Placed.{HasSome, inner_seen, so_far, group_owner, nests_over_grid}
+use Rattle.lower.specs.Placed.{SoFar, inner_seen, seat_of, so_far, group_owner, nests_over_grid}
 use Rattle.lower.specs.Groups.{MixedMade}
 use Rattle.lower.proofs.Claimed.{whole_made}
 use Rattle.lower.proofs.Grouped.{mixed_made}
+use Rattle.lower.proofs.Unplanned.{unwritten_told, written_told}
 use Rattle.lower.proofs.group.body_of.Goals as goal
 
 pub returns-clause-made : goal.returns-clause-made
@@ -85,3 +86,25 @@ returns-clause-mixed c = λ some.
     subst (λ (v : Vec Stmt). MixedMade all n first line (two.line + 1) is e old new (body (list_statements v.items))) (sym c.finish.ensures.statements) told in
     subst (λ (q : ℕ). MixedMade all n first line (q + 1) is e old new (body (list_statements c.finish.new.self.statements.items)))
     (sym (c.finish.ensures.line ∙ c.in_ok-certify.ensures.line)) by_statements
+
+pub returns-clause-told : goal.returns-clause-told
+returns-clause-told c =
+    let e = root_of c.args.root.now in
+    let one = so_far c.fetches_from.new.body in
+    let state = c.in_ok-fetches.ensures.fetched.state in
+    let over : c.in_ok-claimed.claimed ≡ claimed_region (dimensions_of e.0 e.1.region e.1.skeleton) = c.in_ok-claimed.ensures ∙ ap claimed_region c.requires in
+    written_told (algorithm_of c.args.algo.now) (map root_of c.args.roots.now) c.args.beginning.number c.args.inners.now e c.in_ok-claimed.claimed one
+    (list_statements c.in_ok-nests.nests.items, so_far c.nests_of.new.self) c.in_ok-fetches.ensures.told over (ap (λ (p : SoFar). p.symbol) state ∙ c.in_ok-body.ensures.symbols)
+    (ap (λ (p : SoFar). p.seats) state ∙ ap (map seat_of) c.in_ok-body.ensures.seats) c.in_ok-nests.ensures.told c.in_ok-nests.ensures.mixed
+
+pub returns-in_err-nests-clause-told : goal.returns-in_err-nests-clause-told
+returns-in_err-nests-clause-told c =
+    let e = root_of c.args.root.now in
+    let one = so_far c.fetches_from.new.body in
+    let state = c.in_ok-fetches.ensures.fetched.state in
+    let s = c.in_err-nests.field-0.0 in
+    let stop : c.from_residual-in_err-nests.result ≡ Err s = search rules in
+    let over : c.in_ok-claimed.claimed ≡ claimed_region (dimensions_of e.0 e.1.region e.1.skeleton) = c.in_ok-claimed.ensures ∙ ap claimed_region c.requires in
+    unwritten_told (algorithm_of c.args.algo.now) (map root_of c.args.roots.now) c.args.beginning.number c.args.inners.now e c.in_ok-claimed.claimed one s
+    c.from_residual-in_err-nests.result _ stop c.in_ok-fetches.ensures.told over (ap (λ (p : SoFar). p.symbol) state ∙ c.in_ok-body.ensures.symbols)
+    (ap (λ (p : SoFar). p.seats) state ∙ ap (map seat_of) c.in_ok-body.ensures.seats) c.in_err-nests.ensures.told c.in_err-nests.ensures.mixed

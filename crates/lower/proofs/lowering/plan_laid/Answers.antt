@@ -55,4 +55,4 @@ returns c =
     let there = c.in_ok-first.ensures in
     let none = sym c.unless_behind.ensures ∙ c.in_default.is in
     unplanned_told a us gs o ls c.args.parties.now n c.in_ok-first.first c.planned.result c.in_default-fault.is count there.first there.sizes there.uses none c.requires.laid
-    c.planned.ensures.made c.planned.ensures.unplanned c.planned.ensures.told
+    c.requires.roots c.requires.alone c.planned.ensures.made c.planned.ensures.told

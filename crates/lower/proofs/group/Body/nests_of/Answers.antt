@@ -1,5 +1,5 @@
-use Rattle.lower.proofs.Grouped.{all_ok, nothing_inside}
+use Rattle.lower.proofs.Grouped.{nothing_inside}
 use Rattle.lower.proofs.group.Body.nests_of.Goals as goal
 
 pub returns-in-empty-clause-mixed : goal.returns-in-empty-clause-mixed
-returns-in-empty-clause-mixed c = all_ok c.whole_nests.result _ (λ v. λ some. nothing_inside c.args.cast.inners.now c.in-empty.len_below some)
+returns-in-empty-clause-mixed c = λ some. nothing_inside c.args.cast.inners.now c.in-empty.len_below some
