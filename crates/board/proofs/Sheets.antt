@@ -1,6 +1,6 @@
 -- What stands on a sheet.
-use Rattle.std.proofs.Common.{◌≡◌, ◌⊎◌, ℕ, zero, suc, ◌+◌, ◌*◌, ◌-◌, ◌<◌, ◌≤◌, ℤ, List, [], ◌∷◌, ◌++◌, length, get_or, set, inl, inr, refl, sym, ap, subst, ◌∙◌, arith, get_or-set_same, get_or-set_other}
-use Rattle.std.specs.Prelude.{drop, map, slice_index, take, Contains}
+use Rattle.std.proofs.Common.{◌≡◌, ◌⊎◌, ℕ, zero, suc, ◌+◌, ◌*◌, ◌-◌, ◌<◌, ◌≤◌, ℤ, List, [], ◌∷◌, ◌++◌, length, get_or, set, inl, inr, sym, ap, subst, ◌∙◌, arith, get_or-set_same, get_or-set_other}
+use Rattle.std.specs.Prelude.{drop, slice_index, take, Contains}
 use mathlib.Core.Logic.{dite}
 use native.Mathlib.Decide.{ℕ_discrete}
 use Rattle.std.proofs.lemmas.Bool.{cases_lt}
@@ -28,11 +28,6 @@ pub set_keeps : (values : List ℤ) (bits : List ℕ) (d v c : ℕ) → d < leng
 set_keeps values bits d v c lt is had = dite (ℕ_discrete c d)
     (λ same. subst (λ (n : ℕ). HasBits values (set bits d v) n) (sym same) (set_here values bits d v lt is))
     (λ other. get_or-set_other bits d c v 0 other ∙ had)
-
--- the bits of the values of cells are the bits of these values
-pub bits_of_values : (values : List ℤ) (cells : List ℕ) → map bits_of (map (value_at values) cells) ≡ bits_at values cells
-bits_of_values values [] = refl
-bits_of_values values (c ∷ cs) = ap (λ (bs : List ℕ). bits_of (value_at values c) ∷ bs) (bits_of_values values cs)
 
 -- the bits of the value of a cell of a list
 pub bits_at_place : (values : List ℤ) (cells bits : List ℕ) (i : ℕ) → bits ≡ bits_at values cells → i < length cells → slice_index bits i ≡ bits_of (value_at values (slice_index cells i))

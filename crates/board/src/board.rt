@@ -15,7 +15,6 @@ use crate::source::Source;
 use crate::view::View;
 use atomic_table::{Closed, Seat, Table};
 use meaning::image::{Image, Shape};
-use numeric::{Ty, wrap};
 use std::alloc::{AllocError, Global};
 use std::marker::Model;
 
@@ -143,12 +142,12 @@ impl<'a, J: Run> Board<'a, J> {
         (found - 1) as u32
     }
 
-    /// Sets the next own cell of the ticket's piece to its value.
-    pub fn put(&self, seat: &mut BoardSeat, ticket: &mut Ticket, value: i64)
+    /// Sets the next own cell of the ticket's piece to its value, whose bits these are.
+    pub fn put(&self, seat: &mut BoardSeat, ticket: &mut Ticket, bits: u32)
         requires board { seat.old.board ≡ self.now }
         requires ticket { IsTicketOf J.layout seat.old.view ticket.old }
         requires left { ticket.old.puts < length (own_of J.layout ticket.old.piece) }
-        requires value { value ≡ value_at J.values (own_cell J.layout ticket.old.piece ticket.old.puts) }
+        requires bits { bits ≡ bits_of (value_at J.values (own_cell J.layout ticket.old.piece ticket.old.puts)) }
         ensures seat { seat.new ≡ seeing seat.old (after_put seat.old.view) }
         ensures ticket { ticket.new ≡ task ticket.old.piece (ticket.old.puts + 1) }
         ensures unset { AtStep J.layout J.values seat.old.view (λ words. cell J.layout words (own_cell J.layout ticket.old.piece ticket.old.puts) ≡ 0) }
@@ -159,7 +158,7 @@ impl<'a, J: Run> Board<'a, J> {
         own.len();
         let cell = own.cell(ticket.puts);
         let place = 1 + self.own.len() + cell as usize;
-        let word = 1 + bits(value);
+        let word = 1 + u64::from(bits);
         self.table
             .shared
             .store::<Put<J>>(&mut seat.seat, place, word);
@@ -285,13 +284,6 @@ fn blank_table<'a, J: Run, S: Source<'a>>(
     let words = vec![in alloc; 0u64; 1 + source.pieces() + source.cells()]?;
     let made = Table::of_words(alloc, words.as_slice(), &())?;
     Ok(made)
-}
-
-// The 32 bits of a value.
-fn bits(value: i64) -> u64
-    ensures { result ≡ bits_of value }
-{
-    wrap(Ty::U32, value) as u64
 }
 
 // The first piece whose flag is not set.

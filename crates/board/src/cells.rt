@@ -1,6 +1,6 @@
 //! The cells of a sheet, as those who look at them share them.
 
-ghost use Rattle.std.specs.Prelude.{◌≡◌, ℕ, ◌+◌, ◌^◌, ◌<◌, ◌≤◌, drop, length, map, slice_index, take, Contains, IfSome};
+ghost use Rattle.std.specs.Prelude.{◌≡◌, ℕ, ◌+◌, ◌^◌, ◌<◌, ◌≤◌, drop, length, slice_index, take, Contains, IfSome};
 ghost use Rattle.std.specs.Bool.{OnTrue};
 ghost use Rattle.board.specs.Kept.{in_planes, AreSamples};
 ghost use Rattle.board.specs.Layout.{own_of, pieces_of, value_at, IsSound};
@@ -10,7 +10,7 @@ ghost use Rattle.board.specs.Words.{bits_of};
 
 use crate::kept::{bits_of_cell, sample_place};
 use crate::law::Run;
-use crate::putting::{Numbers, PART, follow_each_other};
+use crate::putting::{KeptBits, PART, follow_each_other};
 use crate::rows::Rows;
 use crate::showing::show_in;
 use crate::source::Planes;
@@ -90,21 +90,21 @@ impl<'s, 'a, J: Run> SheetCells<'s, 'a, J> {
         Some(sample_place(self.planes, cell - self.bits.len()))
     }
 
-    /// Writes the values of all own cells of a piece into a part of the picture's samples, which begins at this place of all, where it
+    /// Writes the values of all own cells of a piece, whose bits these are, into a part of the picture's samples, which begins at this place of all, where it
     /// has the samples of all of them. Else it says no, and may have written some of them. What cells of the part had they have still.
-    pub fn show(&self, piece: u32, values: &[i64], part: &mut [u16], from: usize) -> bool
+    pub fn show(&self, piece: u32, bits: &[u32], part: &mut [u16], from: usize) -> bool
         requires piece { piece < pieces_of J.layout }
-        requires values { values.now ≡ map (value_at J.values) (own_of J.layout piece) }
+        requires bits { bits.now ≡ bits_at J.values (own_of J.layout piece) }
         requires short { from + length part.old < 2 ^ 32 }
         ensures shown { OnTrue result (IsShown J.layout J.values self.now from part.new piece) }
         ensures more { StaysShown self.now.planes (length self.now.bits) J.values from part.old part.new }
     {
         let cells = self.own.get(piece as usize);
-        show_in::<J, Numbers<'_>>(
+        show_in::<J, KeptBits<'_>>(
             self.planes,
             self.bits.len(),
             cells,
-            &Numbers(values),
+            &KeptBits(bits),
             part,
             from,
         )

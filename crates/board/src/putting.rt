@@ -6,24 +6,14 @@ ghost use Rattle.std.specs.Prelude.{◌≡◌, ◌+◌, ◌-◌, ◌*◌, ◌^�
 ghost use Rattle.std.specs.Bool.{OnTrue};
 ghost use Rattle.board.specs.Kept.{all_bits, in_planes, AreSamples, FollowEachOther};
 ghost use Rattle.board.specs.Sheets.{bits_at, AreOfRow, HasBits, HasRow};
-ghost use Rattle.board.specs.Words.{bits_of};
 
 use crate::kept::pixel_of;
 use crate::law::Run;
 use crate::source::Planes;
-use numeric::{Ty, wrap};
 use orders::CellRuns;
 
 /// How many cells at most are looked at together.
 pub(crate) const PART: usize = 1024;
-
-/// The 32 bits of a value.
-#[inline(always)]
-pub(crate) fn bits(value: i64) -> u32
-    ensures { result ≡ bits_of value }
-{
-    wrap(Ty::U32, value) as u32
-}
 
 /// What is put: the bits of values, one after another.
 pub(crate) trait Values {
@@ -37,23 +27,7 @@ pub(crate) trait Values {
         ensures { result ≡ slice_index (bits self.now) place };
 }
 
-/// Values as numbers.
-#[derive(Clone, Copy, Drop)]
-pub(crate) struct Numbers<'a>(pub(crate) &'a [i64]);
-
-impl Values for Numbers<'_> {
-    ghost use Rattle.std.specs.Prelude.{map};
-    ghost use Rattle.board.specs.Words.{bits_of};
-
-    ghost bits = { λ values. map bits_of values.0.now };
-
-    #[inline(always)]
-    fn at(&self, place: usize) -> u32 {
-        bits(self.0[place])
-    }
-}
-
-/// Bits that were kept apart.
+/// Bits, one after another.
 #[derive(Clone, Copy, Drop)]
 pub(crate) struct KeptBits<'a>(pub(crate) &'a [u32]);
 

@@ -1,16 +1,15 @@
 //! The cells of a run by one worker alone.
 
-ghost use Rattle.std.specs.Prelude.{◌≡◌, ℕ, ◌+◌, ◌^◌, ◌<◌, ◌≤◌, ◌++◌, [], length, map, vec_capacity};
+ghost use Rattle.std.specs.Prelude.{◌≡◌, ℕ, ◌+◌, ◌^◌, ◌<◌, ◌≤◌, ◌++◌, [], length, vec_capacity};
 ghost use Rattle.board.specs.Kept.{all_bits, planes_of, Keeps};
-ghost use Rattle.board.specs.Layout.{picture_of, pieces_of, samples_in, value_at, IsSound, ShowsSamples};
+ghost use Rattle.board.specs.Layout.{picture_of, pieces_of, samples_in, IsSound, ShowsSamples};
 ghost use Rattle.board.specs.Seen.{beside, seen_bits, Seen};
 ghost use Rattle.board.specs.Sheets.{IsPut};
-ghost use Rattle.board.specs.Words.{bits_of};
 
 use crate::cells::SheetCells;
 use crate::kept::{Kept, kept_as};
 use crate::law::Run;
-use crate::putting::{KeptBits, Numbers, bits, put_bits};
+use crate::putting::{KeptBits, put_bits};
 use crate::read_off::read_off;
 use crate::rows::Rows;
 use crate::shown::Shown;
@@ -131,27 +130,8 @@ impl<'a, J: Run> Sheet<'a, J> {
         (apart, samples)
     }
 
-    /// Puts the values of all own cells of a piece. What is put stays.
-    pub fn put(&mut self, piece: u32, values: &[i64])
-        requires piece { piece < pieces_of J.layout }
-        requires values { values.now ≡ map (value_at J.values) (own_of J.layout piece) }
-        ensures put { IsPut J.layout J.values self.new piece }
-        ensures more { (j : ℕ) → IsPut J.layout J.values self.old j → IsPut J.layout J.values self.new j }
-    {
-        let planes = self.kept.planes();
-        let cells = self.own.get(piece as usize);
-        let bits = self.bits.as_mut_slice();
-        put_bits::<J, Numbers<'_>>(
-            bits,
-            self.samples.as_mut_slice(),
-            planes,
-            cells,
-            &Numbers(values),
-        );
-    }
-
-    /// Puts the bits of the values of all own cells of a piece, which were kept apart. What is put stays.
-    pub fn put_kept(&mut self, piece: u32, kept: &[u32])
+    /// Puts the bits of the values of all own cells of a piece. What is put stays.
+    pub fn put(&mut self, piece: u32, kept: &[u32])
         requires piece { piece < pieces_of J.layout }
         requires kept { kept.now ≡ bits_at J.values (own_of J.layout piece) }
         ensures put { IsPut J.layout J.values self.new piece }
@@ -267,27 +247,27 @@ fn show<J: Run>(bits: &[u32], kept: &Kept, samples: &mut [u16])
     }
 }
 
-// The list with the bits of values added, which has room for them. It takes no memory. The list is handed over, so that its length is
-// known to be nobody else's while they are added.
+// The list with bits added, which has room for them. It takes no memory. The list is handed over, so that its length is known to be
+// nobody else's while they are added.
 #[inline(never)]
-fn with_bits(mut kept: Vec<u32>, values: &[i64]) -> Vec<u32>
-    requires { length kept.items + length values.now ≤ vec_capacity kept }
-    ensures items { result.items ≡ kept.items ++ map bits_of values.now }
+fn with_bits(mut kept: Vec<u32>, bits: &[u32]) -> Vec<u32>
+    requires { length kept.items + length bits.now ≤ vec_capacity kept }
+    ensures items { result.items ≡ kept.items ++ bits.now }
     ensures room { vec_capacity result ≡ vec_capacity kept }
 {
-    for value in values {
-        kept.push_reserved(bits(*value));
+    for word in bits {
+        kept.push_reserved(*word);
     }
     kept
 }
 
 /// Keeps the bits of values apart from any sheet, in an empty list that has room for them. It takes no memory.
-pub fn keep_bits(values: &[i64], kept: &mut Vec<u32>)
+pub fn keep_bits(bits: &[u32], kept: &mut Vec<u32>)
     requires none { kept.old.items ≡ [] }
-    requires room { length values.now ≤ vec_capacity kept.old }
-    ensures { kept.new.items ≡ map bits_of values.now }
+    requires room { length bits.now ≤ vec_capacity kept.old }
+    ensures { kept.new.items ≡ bits.now }
 {
     let alloc = *kept.allocator();
     let list = replace(kept, Vec::new(alloc));
-    *kept = with_bits(list, values);
+    *kept = with_bits(list, bits);
 }

@@ -11,7 +11,8 @@ ghost use Rattle.std.specs.Bool.{OnTrue};
 ghost use denote.Param.Send.{IsSend, IsSync};
 ghost use Rattle.board.specs.Layout.{own_of, pieces_of, value_at};
 ghost use Rattle.board.specs.Seen.{beside, seen_bits, NoneShown, StaysShown};
-ghost use Rattle.board.specs.Sheets.{IsPut};
+ghost use Rattle.board.specs.Sheets.{bits_at, IsPut};
+ghost use Rattle.board.specs.Words.{bits_of};
 ghost use Rattle.crew.specs.Crews.{ArePieces};
 ghost use Rattle.crew.specs.Private.{needs_of, HasMemory, IsMostFetched};
 ghost use Rattle.crew.specs.Stages.{AreDesks, AreDone, AreFresh, AreFreshFrom, ArePut, CanCompute, CanWork, HasWorked, IsDesk, IsDone, IsFresh, IsLeft, IsStage};
@@ -111,25 +112,25 @@ pub(crate) fn desks_for<'a, J: Run, P: PrivateRuns<J>>(
     Ok(desks)
 }
 
-/// Leaves the values of a piece's own cells as samples of a part, where it has all of them, or else their bits in a list that has
-/// room for them. It takes no memory.
+/// Leaves the values of a piece's own cells, whose bits these are, as samples of a part, where it has all of them, or else the bits
+/// in a list that has room for them. It takes no memory.
 fn leave<J: Run>(
     seen: &SheetCells<'_, '_, J>,
     piece: u32,
-    values: &[i64],
+    bits: &[u32],
     list: &mut Vec<u32>,
     part: &mut [u16],
     from: usize,
 )
     requires piece { piece < pieces_of J.layout }
-    requires values { values.now ≡ map (value_at J.values) (own_of J.layout piece) }
+    requires bits { bits.now ≡ bits_at J.values (own_of J.layout piece) }
     requires list { IsFresh J.layout piece list.old }
     requires short { from + length part.old < 2 ^ 32 }
     ensures done { IsDone J.layout J.values seen.now from part.new piece list.new }
     ensures more { StaysShown seen.now.planes (length seen.now.bits) J.values from part.old part.new }
 {
-    if !seen.show(piece, values, part, from) {
-        keep_bits(values, list);
+    if !seen.show(piece, bits, part, from) {
+        keep_bits(bits, list);
     }
 }
 
@@ -154,9 +155,9 @@ pub(crate) trait HasDesk {
         ensures values { (desk self.new).scratch.state.given.items ≡ map (value_at J.values) (own_of J.layout piece) }
         ensures desk { IsDesk J.layout (P.plan runs.now) (P.suffices runs.now) (desk self.new) };
 
-    /// The numbers that the last run of a piece gave.
-    fn numbers(&self) -> &[i64]
-        ensures { result.now ≡ (desk self.now).scratch.state.given.items };
+    /// The bits of the numbers that the last run of a piece gave.
+    fn bits(&self) -> &[u32]
+        ensures { result.now ≡ map bits_of (desk self.now).scratch.state.given.items };
 }
 
 impl HasDesk for Desk<'_> {
@@ -172,7 +173,7 @@ impl HasDesk for Desk<'_> {
         compute(alloc, seen, runs, self, piece);
     }
 
-    fn numbers(&self) -> &[i64] {
+    fn bits(&self) -> &[u32] {
         self.given()
     }
 }
@@ -202,7 +203,7 @@ fn compute_apart<J: Run, P: PrivateRuns<J>, G: Gate, D: HasDesk>(
 {
     gate.enter(piece);
     desk.compute::<J, P>(alloc, seen, runs, piece);
-    leave(seen, piece, desk.numbers(), list, part, from);
+    leave(seen, piece, desk.bits(), list, part, from);
     gate.leave(piece);
 }
 
@@ -499,7 +500,7 @@ fn put_left<J: Run>(sheet: &mut Sheet<'_, J>, piece: usize, list: &[u32])
     }
     // No number is taken of this call. It says that there are few pieces.
     sheet.pieces();
-    sheet.put_kept(piece as u32, list);
+    sheet.put(piece as u32, list);
 }
 
 /// Puts the pieces of a stage, which the workers have computed, on the sheet.

@@ -3,6 +3,7 @@
 ghost use Rattle.std.specs.Prelude.{◌≡◌, ◌<◌, ◌≤◌, ℕ, List, IfOk, length, map, slice_index};
 ghost use Rattle.checked_plan.specs.declared.checked.Checked.{Checked as CheckedPlan};
 ghost use Rattle.board.specs.Layout.{own_of, pieces_of, value_at};
+ghost use Rattle.board.specs.Words.{bits_of};
 ghost use Rattle.crew.specs.Private.{fetched_of, needs_of, told, HasLooked, IsOwnOf};
 ghost use Rattle.interpreter.specs.declared.scratch.Scratch.{Scratch as RunMemory};
 
@@ -24,11 +25,11 @@ pub struct Desk<'a> {
 }
 
 impl Desk<'_> {
-    /// The numbers that the last run of a piece gave.
-    pub(crate) fn given(&self) -> &[i64]
-        ensures { result.now ≡ self.now.scratch.state.given.items }
+    /// The bits of the numbers that the last run of a piece gave.
+    pub(crate) fn given(&self) -> &[u32]
+        ensures { result.now ≡ map bits_of self.now.scratch.state.given.items }
     {
-        self.scratch.given()
+        self.scratch.given_bits()
     }
 }
 

@@ -2,6 +2,7 @@
 
 ghost use Rattle.std.specs.Prelude.{◌≡◌, ◌<◌, ◌≤◌, ℕ, ⊤, true, length, map, Contains, IfErr, IfOk, IsOk, IsTrue, MatchBool, slice_index, vec_capacity};
 ghost use Rattle.board.specs.Layout.{own_of, pieces_of, value_at};
+ghost use Rattle.board.specs.Sheets.{bits_at};
 ghost use Rattle.board.specs.Seats.{seeing, IsKnownCell, IsTicketOf, Task};
 ghost use Rattle.board.specs.Views.{completed, HasFinished, IsIdle, Knows};
 ghost use Rattle.crew.specs.Crews.{ArePieces, IsDeskFor};
@@ -59,16 +60,16 @@ fn look_at<J: Run>(
     }
 }
 
-/// Puts the values of all own cells of the ticket's piece, and finishes it.
-fn complete<J: Run>(board: &Board<'_, J>, seat: &mut BoardSeat, mut ticket: Ticket, values: &[i64])
+/// Puts the values of all own cells of the ticket's piece, whose bits these are, and finishes it.
+fn complete<J: Run>(board: &Board<'_, J>, seat: &mut BoardSeat, mut ticket: Ticket, bits: &[u32])
     requires board { seat.old.board ≡ board.now }
     requires ticket { IsTicketOf J.layout seat.old.view ticket }
     requires fresh { ticket.puts ≡ 0 }
-    requires values { values.now ≡ map (value_at J.values) (own_of J.layout ticket.piece) }
+    requires bits { bits.now ≡ bits_at J.values (own_of J.layout ticket.piece) }
     ensures { seat.new ≡ seeing seat.old (completed seat.old.view ticket.piece (length (own_of J.layout ticket.piece))) }
 {
-    for value in values {
-        board.put(seat, &mut ticket, *value);
+    for word in bits {
+        board.put(seat, &mut ticket, *word);
     }
     board.finish(seat, ticket);
 }

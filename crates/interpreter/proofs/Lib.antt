@@ -1,5 +1,6 @@
 pub mod Indices
 pub mod Wrapping
+pub mod LowBits
 pub mod Places
 pub mod Blocks
 pub mod Bindings
@@ -52,3 +53,8 @@ pub mod Words
 pub mod Casts
 pub mod GivenRows
 pub mod UpdateNumbers
+pub mod Recasts
+pub mod FirstNumbers
+pub mod FewRooms
+pub mod Congruent
+pub mod SetRows

@@ -3,3 +3,4 @@ pub mod Raster
 pub mod Blocks
 pub mod Marks
 pub mod Spots
+pub mod SetRows

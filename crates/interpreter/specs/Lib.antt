@@ -9,6 +9,7 @@ pub mod Outcome
 pub mod Pieces
 pub mod Raster
 pub mod Rows
+pub mod LowBits
 pub mod Scratches
 pub mod Sizes
 pub mod States

@@ -8,6 +8,7 @@ mod coding;
 mod columns;
 pub mod evaluation;
 mod forms;
+mod given;
 mod joining;
 mod line_codes;
 mod loads;

@@ -1,10 +1,25 @@
-//! Names by which claims' cells are loaded.
+//! Names, and those by which claims' cells are loaded.
 
 ghost use Rattle.std.specs.Bool.{OnTrue};
 ghost use Rattle.std.specs.Prelude.{◌≡◌, ◌-◌, ◌^◌, ◌==◌, ◌&&◌, not, min, None};
 ghost use Rattle.std.specs.List.{list_all};
+ghost use Rattle.meaning.specs.Names.{same_name};
 ghost use Rattle.plan.specs.Claimed.{is_digit, is_numeral, digits_after};
 ghost use Rattle.interpreter.specs.Claims.{Means};
+
+use meaning::sameness::same_name;
+
+/// Whether the names are the same. Names of one byte, as most variables have, and such as begin with other bytes are compared in place.
+#[inline(always)]
+pub(crate) fn is_named(left: &str, right: &str) -> bool
+    ensures { result ≡ same_name left.now right.now }
+{
+    match (left.as_bytes(), right.as_bytes()) {
+        ([first], [second]) => first == second,
+        ([first, ..], [second, ..]) if first != second => false,
+        _ => same_name(left, right),
+    }
+}
 
 /// Whether the byte is a decimal digit.
 fn is_digit(byte: u8) -> bool

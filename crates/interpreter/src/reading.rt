@@ -7,9 +7,8 @@ ghost use Rattle.interpreter.specs.Pieces.{found_in};
 
 use crate::buffers::Buffers;
 use crate::evaluation::Reader;
-use crate::loads::claim_of;
+use crate::loads::{claim_of, is_named};
 use crate::piece::Piece;
-use meaning::sameness::same_name;
 use plan::Coordinate;
 use tree::Value;
 
@@ -28,7 +27,7 @@ pub(crate) fn number_bound(coordinates: &[Coordinate], numbers: &[i64], name: &s
 {
     match (coordinates, numbers) {
         ([coordinate, coordinates @ ..], [number, numbers @ ..]) => {
-            if same_name(coordinate.variable.as_str(), name) {
+            if is_named(coordinate.variable.as_str(), name) {
                 *number
             } else {
                 number_bound(coordinates, numbers, name)
@@ -121,7 +120,7 @@ impl Reader for Reading<'_, '_> {
     }
 
     fn look(&self, name: &str, at: &[i64]) -> Option<Value> {
-        if same_name(name, self.piece.plan.input.name.as_str()) {
+        if is_named(name, self.piece.plan.input.name.as_str()) {
             self.sample(at)
         } else {
             self.load(name, at)

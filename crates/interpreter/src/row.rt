@@ -1,37 +1,10 @@
 //! Lists of numbers in memory that was taken before.
 
-ghost use Rattle.std.specs.Prelude.{◌≡◌, ◌∷◌, ◌++◌, ◌+◌, ◌<◌, ◌≤◌, [], drop, length, map, pos, take, vec_capacity, IfOk};
-ghost use Rattle.numeric.specs.Wrap.{wrap};
+ghost use Rattle.std.specs.Prelude.{◌≡◌, ◌∷◌, ◌++◌, ◌+◌, ◌<◌, ◌≤◌, [], drop, length, take, IfOk};
 ghost use Rattle.interpreter.specs.Rows.{listed};
 
-use crate::evaluation::{Width, word_number};
 use std::alloc::{AllocError, Global};
 use std::marker::Model;
-
-/// Puts the numbers of a type in that words are.
-#[inline(always)]
-fn put_words<W: Width>(words: &[u32], out: &mut [i64])
-    requires { length words.now ≡ length out.old }
-    ensures { out.new ≡ map (λ w. wrap W.ty (pos w)) words.now }
-{
-    for turn in 0..out.len() {
-        out[turn] = word_number::<W>(words[turn]).value;
-    }
-}
-
-/// Takes the numbers of a type that words are, behind the others.
-fn append_words<W: Width>(items: &mut Vec<i64>, words: &[u32])
-    requires { length items.old.items + length words.now ≤ vec_capacity items.old }
-    ensures items { items.new.items ≡ items.old.items ++ map (λ w. wrap W.ty (pos w)) words.now }
-    ensures capacity { vec_capacity items.old ≤ vec_capacity items.new }
-{
-    let start = items.len();
-    let Ok(()) = items.resize(start + words.len(), 0) else {
-        unreachable!()
-    };
-    let (_, out) = items.split_at_mut(start);
-    put_words::<W>(words, out);
-}
 
 /// A list of numbers in memory that was taken before: there is room for so many.
 #[derive(Drop)]
@@ -116,14 +89,6 @@ impl Row {
         let Ok(()) = self.items.extend_from_slice(more) else {
             unreachable!()
         };
-    }
-
-    /// Takes the numbers of a type that words are, behind the others.
-    pub(crate) fn append_words<W: Width>(&mut self, words: &[u32])
-        requires { length self.old.items + length words.now ≤ self.old.room }
-        ensures { self.new ≡ listed (self.old.items ++ map (λ w. wrap W.ty (pos w)) words.now) self.old.room }
-    {
-        append_words::<W>(&mut self.items, words);
     }
 
     /// So many numbers, whatever they are.

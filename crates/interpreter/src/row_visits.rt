@@ -22,8 +22,8 @@ ghost use Rattle.std.specs.Prelude.{flat_map};
 use crate::buffers::{Buffers, Held, Spot, held_inside, held_window};
 use crate::cells::Cells;
 use crate::evaluation::{Signed8, Signed16, Signed32, Unsigned8, Unsigned16, Unsigned32, Width};
+use crate::given::Given;
 use crate::piece::Piece;
-use crate::row::Row;
 use crate::scanlines::{distance, row_type};
 use crate::state::State;
 use crate::symbols::Symbols;
@@ -99,7 +99,7 @@ fn places_of<'m>(
 }
 
 /// Takes the numbers that the first so many places hold, as long as each holds one: how many it took.
-fn push_each(held: Held<'_>, count: usize, given: &mut Row) -> usize
+fn push_each(held: Held<'_>, count: usize, given: &mut Given) -> usize
     requires marks { count ≤ length held.marks.now }
     requires words { length held.words.now ≡ length held.marks.now }
     requires room { length given.old.items + count ≤ given.old.room }
@@ -111,14 +111,14 @@ fn push_each(held: Held<'_>, count: usize, given: &mut Row) -> usize
         let Some(value) = held_inside(held.marks, held.words, held.wides, turn) else {
             return turn;
         };
-        given.push(value.number);
+        given.push(value);
     }
     count
 }
 
 /// Takes the numbers that the first so many places hold, where these are set to values of the type and their numbers stand in words.
 #[inline(always)]
-fn push_words<W: Width>(held: Held<'_>, count: usize, given: &mut Row)
+fn push_words<W: Width>(held: Held<'_>, count: usize, given: &mut Given)
     requires marked { (k : ℕ) → k < count → slice_get held.marks.now k ≡ Some (narrow_mark W.ty) }
     requires words { count ≤ length held.words.now }
     requires room { length given.old.items + count ≤ given.old.room }
@@ -130,7 +130,7 @@ fn push_words<W: Width>(held: Held<'_>, count: usize, given: &mut Row)
 }
 
 /// The same, by a loop of the type's own.
-fn push_words_of(ty: Ty, held: Held<'_>, count: usize, given: &mut Row)
+fn push_words_of(ty: Ty, held: Held<'_>, count: usize, given: &mut Given)
     requires marked { (k : ℕ) → k < count → slice_get held.marks.now k ≡ Some (narrow_mark ty) }
     requires words { count ≤ length held.words.now }
     requires room { length given.old.items + count ≤ given.old.room }
@@ -148,7 +148,7 @@ fn push_words_of(ty: Ty, held: Held<'_>, count: usize, given: &mut Row)
 }
 
 /// Takes the numbers that places hold, from the first on, as long as each holds one and there is room: how many it took.
-fn push_held(held: Held<'_>, given: &mut Row) -> usize
+fn push_held(held: Held<'_>, given: &mut Given) -> usize
     requires { length held.words.now ≡ length held.marks.now }
     ensures count { result ≤ length held.entry.marks.now }
     ensures given { given_from (places_held held.entry) given.old.items result ≡ Some given.new.items }

@@ -18,14 +18,13 @@ use crate::evaluation::{
     ClampedRamp, Lanes, Number, RunReader, cast_words, clamped_number, number_after, step_words,
     typed_number,
 };
-use crate::loads::claim_of;
+use crate::loads::{claim_of, is_named};
 use crate::piece::Piece;
 use crate::reading::{Reading, number_bound};
 use crate::scanlines::{
     Pixels, copy_words, distance, pixels_beside, put_pixels, put_samples, sample_type,
     samples_beside, take_numbers, take_pixels, take_samples, type_held, window,
 };
-use meaning::sameness::same_name;
 use numeric::Ty;
 use plan::Coordinate;
 use tree::Value;
@@ -72,7 +71,7 @@ impl RunReading<'_, '_> {
     fn source(&self, name: &str) -> Option<Source>
         ensures { IfSome result (Means self.now name.now) }
     {
-        if same_name(name, self.piece.plan.input.name.as_str()) {
+        if is_named(name, self.piece.plan.input.name.as_str()) {
             return Some(Source::Input);
         }
         let claim = self.piece.cert.claims.get(claim_of(name)?)?;

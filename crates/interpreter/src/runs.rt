@@ -171,7 +171,7 @@ fn evaluate_in(
 }
 
 /// The value of a store's line at some turns of a loop, put into the first register, where it can be found for all of them
-/// together: its type.
+/// together: its type. The state then has the numbers of its coordinates at the first turn and at the second.
 fn evaluate_part<'a>(
     piece: &'a Piece<'a>,
     line: &StoreLine<'a>,
@@ -186,6 +186,7 @@ fn evaluate_part<'a>(
     requires point { length line.now.coordinates.now ≤ state.old.point.room }
     ensures finds { IfSome result (λ t. FindsTurns piece.now line.now.buffer line.now.coordinates.now (term_of line.now.value.now) (symbols_of symbols.old) part.turns.symbol part.turns.low part.low (memory_of state.old.memory) part.count t state.new.words.items) }
     ensures count { IfSome result (λ _. part.count ≤ length state.new.words.items) }
+    ensures numbers { IfSome result (λ _. (k : ℕ) → numbers_at state.new.numbers.items state.new.point.items k ≡ numbers_of line.now.coordinates.now (symbols_of symbols.old) part.turns.symbol part.turns.low (part.low +ℤ pos k)) }
     ensures symbols { symbols.new ≡ symbols.old }
     ensures memory { progress_of state.new ≡ progress_of state.old }
     ensures large { IsAsLarge state.old state.new }
@@ -314,48 +315,30 @@ fn first_words(words: &[u32], count: usize) -> &[u32]
     &words[..count]
 }
 
-/// Where the first of a run's stores lies, where those of its later turns lie behind it one by one.
-fn spot_of(
-    place: &[Coordinate],
-    buffer: u64,
-    part: Part,
-    symbols: &mut Symbols,
-    state: &mut State,
-) -> Option<Spot>
-    requires narrow { (k : ℕ) → k < part.count → All (CoordinateIsNarrow (bind (symbols_of symbols.old) part.turns.symbol (part.low +ℤ pos k) (int_le (part.low +ℤ pos k) part.turns.low))) place.now }
-    requires high { (part.low +ℤ pos part.count) ≤ℤ pos (2 ^ 63) }
-    requires symbols { length symbols.old.bound < symbols.old.room }
-    requires numbers { length place.now ≤ state.old.numbers.room }
-    requires point { length place.now ≤ state.old.point.room }
-    ensures lies { IfSome result (λ s. (k : ℕ) → k < part.count → IsSpot state.new.memory buffer (numbers_of place.now (symbols_of symbols.old) part.turns.symbol part.turns.low (part.low +ℤ pos k)) s k) }
-    ensures inside { IfSome result (λ s. (k : ℕ) → k < part.count → HasPlace state.new.memory s.buffer (s.place + k)) }
-    ensures symbols { symbols.new ≡ symbols.old }
-    ensures memory { state.new.memory ≡ state.old.memory }
-    ensures progress { progress_of state.new ≡ progress_of state.old }
-    ensures words { state.new.words.items ≡ state.old.words.items }
-    ensures large { IsAsLarge state.old state.new }
+/// The first so many numbers.
+fn first_numbers(numbers: &[i64], count: usize) -> &[i64]
+    ensures { result.now ≡ take count numbers.now }
 {
-    if part.count < 2 {
-        return None;
-    }
-    let second = part.low + 1;
-    numbers_in(
-        turn(part.turns, part.low),
-        place,
-        symbols,
-        &mut state.numbers,
-    );
-    numbers_in(turn(part.turns, second), place, symbols, &mut state.point);
+    &numbers[..count.min(numbers.len())]
+}
+
+/// Where the first of so many stores of a run lies, where those of its later turns lie behind it one by one. The state has the
+/// numbers of the coordinates at the first turn and at the second, of which the first so many are the point's.
+fn spot_of(state: &State, buffer: u64, size: usize, count: usize) -> Option<Spot>
+    ensures lies { IfSome result (λ s. (k : ℕ) → k < count → IsSpot state.now.memory buffer (take size (numbers_at state.now.numbers.items state.now.point.items k)) s k) }
+    ensures inside { IfSome result (λ s. (k : ℕ) → k < count → HasPlace state.now.memory s.buffer (s.place + k)) }
+{
     risen_spot(
         &state.memory,
         buffer,
-        state.numbers.as_slice(),
-        state.point.as_slice(),
-        part.count,
+        first_numbers(state.numbers.as_slice(), size),
+        first_numbers(state.point.as_slice(), size),
+        count,
     )
 }
 
-/// Stores the numbers of the first register at some turns of a loop.
+/// Stores the numbers of the first register at some turns of a loop. The state has the numbers of the coordinates at the first turn and
+/// at the second.
 fn write_part<'a>(
     piece: &'a Piece<'a>,
     line: &StoreLine<'a>,
@@ -372,14 +355,14 @@ fn write_part<'a>(
     requires count { part.count ≤ length state.old.words.items }
     requires symbols { length symbols.old.bound < symbols.old.room }
     requires point { length line.now.coordinates.now ≤ state.old.point.room }
-    requires numbers { length line.now.coordinates.now ≤ state.old.numbers.room }
+    requires known { (k : ℕ) → numbers_at state.old.numbers.items state.old.point.items k ≡ numbers_of line.now.coordinates.now (symbols_of symbols.old) part.turns.symbol part.turns.low (part.low +ℤ pos k) }
     requires finds { FindsTurns piece.now line.now.buffer line.now.coordinates.now (term_of line.now.value.now) (symbols_of symbols.old) part.turns.symbol part.turns.low part.low (memory_of state.old.memory) part.count ty state.old.words.items }
     ensures symbols { OnOk result (symbols.new ≡ symbols.old) }
     ensures large { OnOk result (IsAsLarge state.old state.new) }
     ensures run { (definition : ℕ) (cell : List ℕ → List ℤ → ValueFound) → EndsIn state.old.given.room (λ _. progress_of state.new) result (steps (around piece.now cell) (flat_map (store_at piece.now line.now.buffer line.now.coordinates.now (term_of line.now.value.now) (symbols_of symbols.old) part.turns.symbol part.turns.low definition) (rising part.low part.count)) (progress_of state.old)) }
 {
-    let place = of_function(line.coordinates, size_in(piece.sizes, line.buffer));
-    match spot_of(place, line.buffer, part, symbols, state) {
+    let size = size_in(piece.sizes, line.buffer);
+    match spot_of(state, line.buffer, size, part.count) {
         Some(spot) => {
             let words = first_words(&state.words, part.count);
             state.memory.put_words(spot, ty, words);

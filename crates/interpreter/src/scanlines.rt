@@ -259,12 +259,24 @@ fn are_along(samples: &[u16], start: usize, step: usize, count: usize) -> bool
 }
 
 /// Puts samples in as words, from a place on, each so many behind the one before.
+#[inline(always)]
 fn put_along(samples: &[u16], start: usize, step: usize, out: &mut [u32])
     requires { (k : ℕ) → k < length out.old → start + k * step < length samples.now }
     ensures { (k : ℕ) → k < length out.new → bits_at out.new k ≡ slice_index samples.now (start + k * step) }
 {
     for turn in 0..out.len() {
         out[turn] = sample_word(samples[start + turn * step]);
+    }
+}
+
+/// The same. Samples of three colours, as most images of three dimensions have, take a loop of their own, of which the step is known.
+fn put_colour(samples: &[u16], start: usize, step: usize, out: &mut [u32])
+    requires { (k : ℕ) → k < length out.old → start + k * step < length samples.now }
+    ensures { (k : ℕ) → k < length out.new → bits_at out.new k ≡ slice_index samples.now (start + k * step) }
+{
+    match step {
+        3 => put_along(samples, start, 3, out),
+        _ => put_along(samples, start, step, out),
     }
 }
 
@@ -277,7 +289,7 @@ pub(crate) fn put_pixels(row: Pixels<'_>, first: usize, out: &mut [u32]) -> Opti
     if !are_along(row.samples, start, row.colours, out.len()) {
         return None;
     }
-    put_along(row.samples, start, row.colours, out);
+    put_colour(row.samples, start, row.colours, out);
     Some(())
 }
 

@@ -1,10 +1,11 @@
 //! The memory of private runs.
 
-ghost use Rattle.std.specs.Prelude.{◌≡◌, ◌≤◌, IfOk, OnOk, map};
+ghost use Rattle.std.specs.Prelude.{◌≡◌, ◌≤◌, IfOk, OnOk, length, map, vec_capacity};
 ghost use Rattle.plan.specs.View.{group_of};
 ghost use Rattle.plan.specs.Certificate.Certificate.{certificate_of};
 ghost use Rattle.interpreter.specs.Needs.{region_count};
 ghost use Rattle.plan.specs.Certificate.Cells.{own_region};
+ghost use Rattle.interpreter.specs.LowBits.{low_bits};
 ghost use Rattle.interpreter.specs.Scratches.{room_of, IsNotedFor, IsScratchForAll};
 
 use crate::buffers::larger;
@@ -60,7 +61,8 @@ impl Scratch {
     /// It takes 5 bytes a place of the buffers, and room of 8 that is not touched as long as all numbers fit their types, of each
     /// number as many places as the group that asks for most of them, 24 bytes a line that binds a symbol, 4 bytes a count of the
     /// largest grid, 16 bytes a coordinate of the points that the groups' pieces own and at which their lines fetch and store, 8
-    /// bytes an index of the calls in their stores, and 8 bytes a number.
+    /// bytes an index of the calls in their stores, and 4 bytes a number, besides room of 8 that is not touched as long as all numbers
+    /// that a run gives are of one type and fit it.
     ///
     /// # Errors
     /// `AllocError` where memory runs out. A scratch has no room for buffers of more than four coordinates.
@@ -97,10 +99,26 @@ impl Scratch {
         })
     }
 
-    /// The numbers that the last run gave.
-    pub fn given(&self) -> &[i64]
-        ensures { result.now ≡ self.now.state.given.items }
+    /// How many numbers the last run gave.
+    pub fn given_count(&self) -> usize
+        ensures { result ≡ length self.now.state.given.items }
     {
-        self.state.given.as_slice()
+        self.state.given.len()
+    }
+
+    /// The lowest 32 bits of the numbers that the last run gave, in two's complement.
+    pub fn given_bits(&self) -> &[u32]
+        ensures { result.now ≡ map low_bits self.now.state.given.items }
+    {
+        self.state.given.bits()
+    }
+
+    /// Makes a list that of the numbers that the last run gave. It takes no memory.
+    pub fn copy_given(&self, numbers: &mut Vec<i64>)
+        requires { length self.now.state.given.items ≤ vec_capacity numbers.old }
+        ensures items { numbers.new.items ≡ self.now.state.given.items }
+        ensures room { vec_capacity numbers.new ≡ vec_capacity numbers.old }
+    {
+        self.state.given.copy_to(numbers);
     }
 }

@@ -5,6 +5,7 @@ ghost use Rattle.interpreter.specs.Scratches.{IsMadeFor};
 
 use crate::buffers::Buffers;
 use crate::evaluation::Number;
+use crate::given::Given;
 use crate::needs::Needs;
 use crate::registers::{LONGEST_RUN, LONGEST_UPDATE};
 use crate::row::Row;
@@ -18,7 +19,7 @@ const PARTS: usize = 16;
 #[derive(Drop)]
 pub(crate) struct State {
     pub memory: Buffers,
-    pub given: Row,
+    pub given: Given,
     /// The numbers of a store's coordinates, as far as they are known.
     pub numbers: Row,
     /// The point that is read or written.
@@ -52,7 +53,7 @@ impl State {
     {
         Ok(State {
             memory: Buffers::new(alloc, &needs.limits)?,
-            given: Row::new(alloc, given)?,
+            given: Given::new(alloc, given)?,
             numbers: Row::new(alloc, needs.coordinates)?,
             point: Row::new(alloc, needs.coordinates)?,
             stack: Row::new(alloc, needs.indices)?,

@@ -128,7 +128,7 @@ fn give(piece: &Piece<'_>, claim: u64, state: &mut State) -> Result<(), Stop>
     if state.given.free() == 0 {
         return Err(Stop::Full);
     }
-    state.given.push(value.number);
+    state.given.push(value);
     Ok(())
 }
 

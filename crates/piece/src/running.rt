@@ -79,7 +79,11 @@ pub fn private_run(
     let mut scratch = Scratch::new(alloc, &plan.groups, checked.cert(), most)?;
     let told = LookedCells::of(alloc, cells, piece, looked)?;
     match run_in(alloc, &mut scratch, checked, inputs, &told, piece, place) {
-        Ok(()) => Ok(Some(Vec::from_slice(alloc, scratch.given())?)),
+        Ok(()) => {
+            let mut numbers = Vec::with_capacity(alloc, scratch.given_count())?;
+            scratch.copy_given(&mut numbers);
+            Ok(Some(numbers))
+        }
         Err(Stop::Fault) => Ok(None),
         Err(Stop::Full) => Err(AllocError),
     }

@@ -6,7 +6,6 @@ ghost use Rattle.steps.specs.Desks.{IsDeskFor};
 ghost use Rattle.steps.specs.Work.{targets_on, work_on};
 
 use crate::desk::{Desk, tell};
-use crate::numbers::replace;
 use crate::runs::Runs;
 use algo::Inputs;
 use checked_plan::Checked;
@@ -68,6 +67,6 @@ impl Runs for PlanJob<'_> {
         ) else {
             unreachable!()
         };
-        replace(numbers, desk.scratch.given());
+        desk.scratch.copy_given(numbers);
     }
 }

@@ -7,7 +7,6 @@ mod counts;
 mod crew;
 mod desk;
 mod job;
-mod numbers;
 mod replaying;
 mod runs;
 mod samples;

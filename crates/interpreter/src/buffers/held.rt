@@ -7,6 +7,7 @@ ghost use Rattle.interpreter.specs.declared.evaluation.lanes.Number.{Number as N
 ghost use Rattle.numeric.specs.Wrap.{wrap, IsOf};
 ghost use Rattle.tree.specs.Meaning.{typed};
 ghost use Rattle.interpreter.specs.Buffers.Marks.{held_by, held_places, places_held, row_held, word_in, word_values};
+ghost use Rattle.interpreter.specs.Buffers.SetRows.{set_row};
 ghost use Rattle.interpreter.specs.CellRows.{row_value, told_value, number_told};
 ghost use Rattle.interpreter.specs.declared.cells.NumberKind.TheVariants.{Exact, Bits};
 ghost use Rattle.interpreter.specs.Evaluation.Lanes.{number_at};
@@ -181,7 +182,28 @@ fn put_word(marks: &mut [Mark], words: &mut [u32], place: usize, ty: Ty, word: u
     words[place] = word;
 }
 
-/// Sets the places from one on, one after another, each to the value of the type whose low bits a word has.
+/// Gives so many places the mark, from one on.
+fn mark_row(marks: &mut [Mark], place: usize, count: usize, mark: Mark)
+    requires { place + count ≤ length marks.old }
+    ensures { marks.new ≡ set_row (λ _. mark) place marks.old count }
+{
+    let all = marks.len();
+    for turn in 0..count {
+        marks[place_behind(all, place, turn)] = mark;
+    }
+}
+
+/// Gives places side by side these words, from one on.
+fn copy_row(words: &mut [u32], place: usize, from: &[u32])
+    requires { place + length from.now ≤ length words.old }
+    ensures { words.new ≡ set_row (word_in from.now) place words.old (length from.now) }
+{
+    let (_, later) = words.split_at_mut(place);
+    let (row, _) = later.split_at_mut(from.len());
+    row.copy_from_slice(from);
+}
+
+/// Sets the places from one on, each to the value of the type whose low bits a word has.
 pub(crate) fn put_row_of_words(
     marks: &mut [Mark],
     words: &mut [u32],
@@ -193,10 +215,8 @@ pub(crate) fn put_row_of_words(
     requires words { length words.old ≡ length marks.old }
     ensures { (zs : List NumberHeld) → held_places marks.new words.new zs ≡ row_held (word_values ty from.now) place (held_places marks.old words.old zs) (length from.now) }
 {
-    let all = marks.len();
-    for turn in 0..from.len() {
-        put_word(marks, words, place_behind(all, place, turn), ty, from[turn]);
-    }
+    mark_row(marks, place, from.len(), narrow_mark(ty));
+    copy_row(words, place, from);
 }
 
 /// Sets the place of a number to the value of the type whose low bits the number has.

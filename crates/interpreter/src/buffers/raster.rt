@@ -1,6 +1,6 @@
 //! Where the places of a buffer stand in its vector.
 
-ghost use Rattle.std.specs.Prelude.{◌≡◌, ◌<◌, ◌≤◌, ◌^◌, ◌+ℤ◌, ◌≤ℤ◌, ◌<ℤ◌, ℕ, length, pos, IfSome, SomeIff, MatchOption, map, None};
+ghost use Rattle.std.specs.Prelude.{◌≡◌, ◌∷◌, [], ◌<◌, ◌≤◌, ◌^◌, ◌+ℤ◌, ◌≤ℤ◌, ◌<ℤ◌, ℕ, length, pos, IfSome, SomeIff, MatchOption, map, None};
 ghost use Rattle.std.specs.Bool.{OnTrue};
 ghost use Rattle.plan.specs.Rooms.{place, Straight};
 ghost use Rattle.interpreter.specs.Buffers.Rooms.{room_of};
@@ -27,8 +27,46 @@ pub(crate) fn place_count(rooms: &[Room]) -> Option<usize>
     }
 }
 
-/// The number of a point's place in raster order; nothing where the point has no place.
-pub(crate) fn place_number(rooms: &[Room], at: &[i64]) -> Option<usize>
+/// The number of a place of one coordinate.
+#[inline(always)]
+fn place_of_one(room: &Room, coordinate: i64) -> Option<usize>
+    ensures { MatchOption result (place (room_of room.now ∷ []) (coordinate ∷ []) ≡ None) (λ n. LiesAt (room_of room.now ∷ []) (coordinate ∷ []) n) }
+{
+    let seat = room.seat(coordinate)?;
+    Some(seat)
+}
+
+/// The number of a place of two coordinates.
+#[inline(always)]
+fn place_of_two(first: &Room, second: &Room, x: i64, y: i64) -> Option<usize>
+    requires { place_count (room_of first.now ∷ room_of second.now ∷ []) < 2 ^ 64 }
+    ensures { MatchOption result (place (room_of first.now ∷ room_of second.now ∷ []) (x ∷ y ∷ []) ≡ None) (λ n. LiesAt (room_of first.now ∷ room_of second.now ∷ []) (x ∷ y ∷ []) n) }
+{
+    let seat = first.seat(x)?;
+    let later = place_of_one(second, y)?;
+    Some(later * first.count() as usize + seat)
+}
+
+/// The number of a place of three coordinates.
+#[inline(always)]
+fn place_of_three(
+    first: &Room,
+    second: &Room,
+    third: &Room,
+    x: i64,
+    y: i64,
+    z: i64,
+) -> Option<usize>
+    requires { place_count (room_of first.now ∷ room_of second.now ∷ room_of third.now ∷ []) < 2 ^ 64 }
+    ensures { MatchOption result (place (room_of first.now ∷ room_of second.now ∷ room_of third.now ∷ []) (x ∷ y ∷ z ∷ []) ≡ None) (λ n. LiesAt (room_of first.now ∷ room_of second.now ∷ room_of third.now ∷ []) (x ∷ y ∷ z ∷ []) n) }
+{
+    let seat = first.seat(x)?;
+    let later = place_of_two(second, third, y, z)?;
+    Some(later * first.count() as usize + seat)
+}
+
+/// The number of a point's place in raster order, by one coordinate after another; nothing where the point has no place.
+fn place_by_each(rooms: &[Room], at: &[i64]) -> Option<usize>
     requires { place_count (map room_of rooms.now) < 2 ^ 64 }
     ensures { MatchOption result (place (map room_of rooms.now) at.now ≡ None) (λ n. LiesAt (map room_of rooms.now) at.now n) }
 {
@@ -36,10 +74,22 @@ pub(crate) fn place_number(rooms: &[Room], at: &[i64]) -> Option<usize>
         ([], []) => Some(0),
         ([room, rooms @ ..], [coordinate, at @ ..]) => {
             let seat = room.seat(*coordinate)?;
-            let later = place_number(rooms, at)?;
+            let later = place_by_each(rooms, at)?;
             Some(later * room.count() as usize + seat)
         }
         _ => None,
+    }
+}
+
+/// The number of a point's place in raster order; nothing where the point has no place. Two coordinates, and three, are taken at once.
+pub(crate) fn place_number(rooms: &[Room], at: &[i64]) -> Option<usize>
+    requires { place_count (map room_of rooms.now) < 2 ^ 64 }
+    ensures { MatchOption result (place (map room_of rooms.now) at.now ≡ None) (λ n. LiesAt (map room_of rooms.now) at.now n) }
+{
+    match (rooms, at) {
+        ([first, second], [x, y]) => place_of_two(first, second, *x, *y),
+        ([first, second, third], [x, y, z]) => place_of_three(first, second, third, *x, *y, *z),
+        _ => place_by_each(rooms, at),
     }
 }
 

@@ -14,6 +14,8 @@ use crate::evaluation::operations::{
     Comparing, Difference, IsAtLeast, IsAtMost, IsDifferent, IsEqual, IsGreater, IsLess, Larger,
     Operator, Product, Quotient, Remainder, Smaller, Sum,
 };
+use crate::evaluation::residue_kernels::{apply_residues, apply_residues_by, apply_residues_to};
+use crate::evaluation::small_kernels::{clamp_small_by, widen_each_small};
 use crate::evaluation::widths::{
     Signed8, Signed16, Signed32, Unsigned8, Unsigned16, Unsigned32, Width,
 };
@@ -138,15 +140,15 @@ fn apply_in<O: Operator>(ty: Ty, out: &mut [u32], right: &[u32])
     }
 }
 
-/// The operator on each word and the one of another register, by a loop of the operator's and the type's own.
+/// The operator on each word and the one of another register, by a loop of the operator's own, and of the type's where the type matters.
 pub(crate) fn apply_all(op: Op, ty: Ty, out: &mut [u32], right: &[u32])
     requires { length right.now ≡ length out.old }
     ensures { (k : ℕ) → k < length out.new → word_at ty out.new k ≡ apply op ty (word_at ty out.old k) (word_at ty right.now k) }
 {
     match op {
-        Op::Add => apply_in::<Sum>(ty, out, right),
-        Op::Sub => apply_in::<Difference>(ty, out, right),
-        Op::Mul => apply_in::<Product>(ty, out, right),
+        Op::Add => apply_residues::<Sum>(out, right),
+        Op::Sub => apply_residues::<Difference>(out, right),
+        Op::Mul => apply_residues::<Product>(out, right),
         Op::Div => apply_in::<Quotient>(ty, out, right),
         Op::Rem => apply_in::<Remainder>(ty, out, right),
         Op::Min => apply_in::<Smaller>(ty, out, right),
@@ -178,14 +180,14 @@ fn apply_by_in<O: Operator>(ty: Ty, out: &mut [u32], right: Number)
     }
 }
 
-/// The operator on each word and one number, by a loop of the operator's and the type's own.
+/// The operator on each word and one number, by a loop of the operator's own, and of the type's where the type matters.
 pub(crate) fn apply_by(op: Op, ty: Ty, out: &mut [u32], right: Number)
     ensures { (k : ℕ) → k < length out.new → word_at ty out.new k ≡ apply op ty (word_at ty out.old k) right.value }
 {
     match op {
-        Op::Add => apply_by_in::<Sum>(ty, out, right),
-        Op::Sub => apply_by_in::<Difference>(ty, out, right),
-        Op::Mul => apply_by_in::<Product>(ty, out, right),
+        Op::Add => apply_residues_by::<Sum>(out, right),
+        Op::Sub => apply_residues_by::<Difference>(out, right),
+        Op::Mul => apply_residues_by::<Product>(out, right),
         Op::Div => apply_by_in::<Quotient>(ty, out, right),
         Op::Rem => apply_by_in::<Remainder>(ty, out, right),
         Op::Min => apply_by_in::<Smaller>(ty, out, right),
@@ -219,15 +221,16 @@ fn apply_to_in<O: Operator>(ty: Ty, left: Number, right: &[u32], out: &mut [u32]
     }
 }
 
-/// The operator on one number and each word of a register, put into another, by a loop of the operator's and the type's own.
+/// The operator on one number and each word of a register, put into another, by a loop of the operator's own, and of the type's where
+/// the type matters.
 pub(crate) fn apply_to(op: Op, ty: Ty, left: Number, right: &[u32], out: &mut [u32])
     requires { length right.now ≡ length out.old }
     ensures { (k : ℕ) → k < length out.new → word_at ty out.new k ≡ apply op ty left.value (word_at ty right.now k) }
 {
     match op {
-        Op::Add => apply_to_in::<Sum>(ty, left, right, out),
-        Op::Sub => apply_to_in::<Difference>(ty, left, right, out),
-        Op::Mul => apply_to_in::<Product>(ty, left, right, out),
+        Op::Add => apply_residues_to::<Sum>(left, right, out),
+        Op::Sub => apply_residues_to::<Difference>(left, right, out),
+        Op::Mul => apply_residues_to::<Product>(left, right, out),
         Op::Div => apply_to_in::<Quotient>(ty, left, right, out),
         Op::Rem => apply_to_in::<Remainder>(ty, left, right, out),
         Op::Min => apply_to_in::<Smaller>(ty, left, right, out),
@@ -334,12 +337,12 @@ pub(crate) fn clamp_by(ty: Ty, out: &mut [u32], low: Number, high: Number)
     ensures { (k : ℕ) → k < length out.new → word_at ty out.new k ≡ int_max (int_min (word_at ty out.old k) high.value) low.value }
 {
     match ty {
-        Ty::U8 => clamp_each_by::<Unsigned8>(out, low, high),
-        Ty::U16 => clamp_each_by::<Unsigned16>(out, low, high),
+        Ty::U8 => clamp_small_by::<Unsigned8>(out, low, high),
+        Ty::U16 => clamp_small_by::<Unsigned16>(out, low, high),
         Ty::U32 => clamp_each_by::<Unsigned32>(out, low, high),
-        Ty::I8 => clamp_each_by::<Signed8>(out, low, high),
-        Ty::I16 => clamp_each_by::<Signed16>(out, low, high),
-        Ty::I32 => clamp_each_by::<Signed32>(out, low, high),
+        Ty::I8 => clamp_small_by::<Signed8>(out, low, high),
+        Ty::I16 => clamp_small_by::<Signed16>(out, low, high),
+        Ty::I32 => clamp_small_by::<Signed32>(out, low, high),
     }
 }
 
@@ -467,9 +470,8 @@ pub(crate) fn copy_each(from: &[u32], out: &mut [u32])
     requires { length out.old ≤ length from.now }
     ensures { (k : ℕ) → k < length out.new → bits_at out.new k ≡ bits_at from.now k }
 {
-    for turn in 0..out.len() {
-        out[turn] = from[turn];
-    }
+    let (first, _) = from.split_at(out.len());
+    out.copy_from_slice(first);
 }
 
 /// Puts one word in for each turn.
@@ -523,7 +525,7 @@ pub(crate) fn widen_all(ty: Ty, words: &[u32], out: &mut [Number])
         Ty::U32 => widen_each::<Unsigned32>(words, out),
         Ty::I8 => widen_each::<Signed8>(words, out),
         Ty::I16 => widen_each::<Signed16>(words, out),
-        Ty::I32 => widen_each::<Signed32>(words, out),
+        Ty::I32 => widen_each_small::<Signed32>(words, out),
     }
 }
 

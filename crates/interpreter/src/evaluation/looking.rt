@@ -18,6 +18,9 @@ use crate::registers::LONGEST_RUN;
 use crate::scanlines::distance;
 use numeric::Ty;
 
+/// How many turns a run has at most for which a shorter list of numbers is cleared.
+const SHORT_RUN: usize = 128;
+
 /// The number of lanes that have one value at all turns.
 fn fixed(lanes: Lanes) -> Option<i64>
     ensures { IfSome result (λ z. (ws : List ℕ) (k : ℕ) → lane_number lanes ws k ≡ z) }
@@ -65,7 +68,28 @@ fn look_singly<R: RunReader>(
 ) -> Option<Ty>
     ensures { IfSome result (λ t. (m : Memory ValueFound) → R.agrees reader.now m → (k : ℕ) → k < length out.new → found_as cast (R.look reader.now m name.now (lane_number first registers.now k ∷ others.now)) ≡ Some (typed t (word_at t out.new k))) }
 {
+    if out.len() <= SHORT_RUN {
+        let mut room = [Number { value: 0 }; SHORT_RUN];
+        return look_singly_in(&mut room, name, first, others, registers, cast, reader, out);
+    }
     let mut room = [Number { value: 0 }; LONGEST_RUN];
+    look_singly_in(&mut room, name, first, others, registers, cast, reader, out)
+}
+
+/// What a name finds at the turns of a run, at one after another, where these are the indices but the first. The numbers have room in
+/// the list.
+fn look_singly_in<R: RunReader>(
+    room: &mut [Number],
+    name: &str,
+    first: Lanes,
+    others: &[i64],
+    registers: &[u32],
+    cast: Option<Ty>,
+    reader: &R,
+    out: &mut [u32],
+) -> Option<Ty>
+    ensures { IfSome result (λ t. (m : Memory ValueFound) → R.agrees reader.now m → (k : ℕ) → k < length out.new → found_as cast (R.look reader.now m name.now (lane_number first registers.now k ∷ others.now)) ≡ Some (typed t (word_at t out.new k))) }
+{
     if room.len() < out.len() {
         return None;
     }
@@ -87,7 +111,26 @@ fn look_points<R: RunReader>(
 ) -> Option<Ty>
     ensures { IfSome result (λ t. (m : Memory ValueFound) → R.agrees reader.now m → (k : ℕ) → k < length out.new → found_as cast (R.look reader.now m name.now (lanes_at (length out.new) indices.now registers.now k)) ≡ Some (typed t (word_at t out.new k))) }
 {
+    if out.len() <= SHORT_RUN {
+        let mut room = [Number { value: 0 }; SHORT_RUN];
+        return look_points_in(&mut room, name, indices, registers, cast, reader, out);
+    }
     let mut room = [Number { value: 0 }; LONGEST_RUN];
+    look_points_in(&mut room, name, indices, registers, cast, reader, out)
+}
+
+/// What a name finds at the turns of a run, at one after another, where each index may change. The numbers have room in the list.
+fn look_points_in<R: RunReader>(
+    room: &mut [Number],
+    name: &str,
+    indices: &[Lanes],
+    registers: &[u32],
+    cast: Option<Ty>,
+    reader: &R,
+    out: &mut [u32],
+) -> Option<Ty>
+    ensures { IfSome result (λ t. (m : Memory ValueFound) → R.agrees reader.now m → (k : ℕ) → k < length out.new → found_as cast (R.look reader.now m name.now (lanes_at (length out.new) indices.now registers.now k)) ≡ Some (typed t (word_at t out.new k))) }
+{
     if room.len() < out.len() {
         return None;
     }

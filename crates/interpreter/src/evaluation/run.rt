@@ -15,6 +15,7 @@ use crate::evaluation::lanes::{Lanes, Number};
 use crate::evaluation::looking::look_run;
 use crate::evaluation::repeats::repeat_of;
 use crate::evaluation::run_reader::RunReader;
+use crate::evaluation::usual_indices::usual_lanes;
 use crate::evaluation::whole::{
     apply_lanes, apply_repeated, choose_lanes, clamp_lanes, compare_lanes, negate_lanes, spread,
     type_of, widen, wrap_lanes,
@@ -318,7 +319,10 @@ fn register_run<R: RunReader>(
         return None;
     }
     let (out, rest) = registers.split_at_mut(count);
-    operand_run(expr, reader, out, rest)
+    match usual_lanes(expr, reader, out) {
+        Some(lanes) => Some(lanes),
+        None => operand_run(expr, reader, out, rest),
+    }
 }
 
 /// The numbers of an expression at as many turns of a run as the list has, and their type. Nothing where they are not taken for all

@@ -57,7 +57,7 @@ fn value_of(ty: Ty, number: Number) -> Value
 
 /// One value at all turns.
 #[inline(always)]
-fn broadcast(value: Value) -> Lanes
+pub(crate) fn broadcast(value: Value) -> Lanes
     ensures narrow { (n : ℕ) → IsNarrowFor n result }
     ensures lanes { (ws : List ℕ) (k : ℕ) → lane result ws k ≡ value }
 {
@@ -203,7 +203,7 @@ fn move_ramp(op: Op, left: Value, right: Value, count: usize) -> Option<Value>
 }
 
 /// The operator where no register is needed.
-fn apply_whole(op: Op, left: Lanes, right: Lanes, count: usize) -> Option<Lanes>
+pub(crate) fn apply_whole(op: Op, left: Lanes, right: Lanes, count: usize) -> Option<Lanes>
     ensures narrow { IfSome result (IsNarrowFor count) }
     ensures lanes { IfSome result (λ x. (us vs ws : List ℕ) (k : ℕ) → k < count → lane x us k ≡ applied op (lane left vs k) (lane right ws k)) }
 {
@@ -358,6 +358,23 @@ pub(crate) fn negate_lanes(lanes: Lanes, out: &mut [u32]) -> Option<Lanes>
     }
 }
 
+/// Whether this type makes of each number what it makes of the one that the number wraps to of its own type: it has no more bits.
+pub(crate) fn wraps_alike(own: Ty, ty: Ty) -> bool
+    ensures { OnTrue result ((z : ℤ) → wrap ty z ≡ wrap ty (wrap own z)) }
+{
+    ty.bits() <= own.bits()
+}
+
+/// The words of a type, so that this type makes of each what its number wraps to. A type of no more bits makes that of them as they are.
+fn recast_words(own: Ty, ty: Ty, out: &mut [u32])
+    ensures { (k : ℕ) → k < length out.new → word_at ty out.new k ≡ wrap ty (word_at own out.old k) }
+{
+    if wraps_alike(own, ty) {
+        return;
+    }
+    extend_all(own, out);
+}
+
 /// Lanes wrapped to the type.
 pub(crate) fn wrap_lanes(ty: Ty, lanes: Lanes, out: &mut [u32]) -> Option<Lanes>
     ensures narrow { IfSome result (IsNarrowFor (length out.new)) }
@@ -367,7 +384,7 @@ pub(crate) fn wrap_lanes(ty: Ty, lanes: Lanes, out: &mut [u32]) -> Option<Lanes>
         Lanes::Broadcast(_, number) => Some(broadcast(wrapped(ty, number.value))),
         _ => {
             spread(lanes, out)?;
-            extend_all(type_of(lanes), out);
+            recast_words(type_of(lanes), ty, out);
             Some(Lanes::Vector(ty))
         }
     }
@@ -380,7 +397,7 @@ pub(crate) fn cast_words(ty: Ty, cast: Option<Ty>, out: &mut [u32]) -> Ty
     match cast {
         None => ty,
         Some(cast) => {
-            extend_all(ty, out);
+            recast_words(ty, cast, out);
             cast
         }
     }
@@ -408,7 +425,7 @@ fn clamped_ramp(ty: Ty, first: Number, low: Value, high: Value) -> Lanes
 }
 
 /// Lanes between others, where no register is needed.
-fn clamp_whole(value: Lanes, low: Lanes, high: Lanes, count: usize) -> Option<Lanes>
+pub(crate) fn clamp_whole(value: Lanes, low: Lanes, high: Lanes, count: usize) -> Option<Lanes>
     requires { IsNarrowFor count value }
     ensures narrow { IfSome result (IsNarrowFor count) }
     ensures lanes { IfSome result (λ x. (ts us vs ws : List ℕ) (k : ℕ) → k < count → lane x ts k ≡ clamped (lane value us k) (lane low vs k) (lane high ws k)) }

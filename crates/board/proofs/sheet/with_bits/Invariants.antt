@@ -1,10 +1,9 @@
 use Rattle.std.proofs.Common.{◌≡◌, ◌++◌, take}
-use Rattle.std.specs.Prelude.{map, vec_capacity}
-use Rattle.board.specs.Words.{bits_of}
+use Rattle.std.specs.Prelude.{vec_capacity}
 use Rattle.board.proofs.sheet.with_bits.Given as goal
 
-abbrev pub invariant-loop-value : goal.invariant-loop-value
-invariant-loop-value l = record {
-  items : l.kept.items ≡ l.initial.kept.items ++ map bits_of (take l.value-index l.values);
+abbrev pub invariant-loop-word : goal.invariant-loop-word
+invariant-loop-word l = record {
+  items : l.kept.items ≡ l.initial.kept.items ++ take l.word-index l.bits;
   room : vec_capacity l.kept ≡ vec_capacity l.initial.kept;
 }

@@ -3,9 +3,9 @@ use Rattle.board.specs.Seats.{seeing, task, IsTicketOf}
 use Rattle.crew.proofs.Filling.{with_puts}
 use Rattle.crew.proofs.worker.complete.Given as goal
 
-abbrev pub invariant-loop-value : goal.invariant-loop-value
-invariant-loop-value g l = record {
-  seat : l.seat ≡ seeing l.initial.seat (with_puts l.initial.seat.view l.value-index);
-  ticket : l.ticket ≡ task l.initial.ticket.piece l.value-index;
+abbrev pub invariant-loop-word : goal.invariant-loop-word
+invariant-loop-word g l = record {
+  seat : l.seat ≡ seeing l.initial.seat (with_puts l.initial.seat.view l.word-index);
+  ticket : l.ticket ≡ task l.initial.ticket.piece l.word-index;
   held : IsTicketOf g.J.Run.layout l.seat.view l.ticket;
 }

@@ -21,6 +21,7 @@ use Rattle.interpreter.specs.Runs.{numbers_at, IsBut}
 use Rattle.interpreter.specs.Targets.{known_number, CoordinateIsNarrow}
 use Rattle.interpreter.specs.declared.symbols.Binding.{Binding}
 use Rattle.interpreter.proofs.StoreRuns.{both_some, written_back}
+use Rattle.interpreter.proofs.FoundRuns.{if_some}
 use Rattle.interpreter.proofs.Moving.{numbers_moved}
 use Rattle.interpreter.proofs.runs.evaluate_part.Goals as goal
 
@@ -48,6 +49,26 @@ numbers_in-requires-2-clause-narrow c =
     let fits : SFits w64 z = search rules in
     let is : c.turn-2.result ≡ record { symbol = part.turns.symbol; value = z; first = int_le z part.turns.low } = first_of (search rules, search (rules, to_z-of_z)) in
     subst C (sym c.numbers_in.ensures.symbols) (subst B (sym is) (c.requires.narrow 1 some))
+
+pub returns-clause-numbers : goal.returns-clause-numbers
+returns-clause-numbers c =
+    let part = c.args.part in
+    let s = symbols_of c.args.symbols.now in
+    let cs = c.args.line.now.coordinates.now in
+    let z = part.low +ℤ pos 1 in
+    let fits : SFits w64 z = search rules in
+    let is : c.turn.result ≡ record { symbol = part.turns.symbol; value = part.low; first = int_le part.low part.turns.low } = first_of (search rules, search (rules, to_z-of_z)) in
+    let is2 : c.turn-2.result ≡ record { symbol = part.turns.symbol; value = z; first = int_le z part.turns.low } = first_of (search rules, search (rules, to_z-of_z)) in
+    let first : c.numbers_in.new.numbers.items ≡ map (known_number (bind s part.turns.symbol part.low (int_le part.low part.turns.low))) cs =
+    ap (λ (r : Listed). r.items) c.numbers_in.ensures.numbers ∙ ap (λ (b : Binding). map (known_number (bind s b.symbol b.value b.first)) cs) is in
+    let second : c.numbers_in-2.new.numbers.items ≡ map (known_number (bind s part.turns.symbol z (int_le z part.turns.low))) cs =
+    ap (λ (r : Listed). r.items) c.numbers_in-2.ensures.numbers
+    ∙ ap (λ (y : Bindings). map (known_number (bind (symbols_of y) c.turn-2.result.symbol c.turn-2.result.value c.turn-2.result.first)) cs) c.numbers_in.ensures.symbols
+    ∙ ap (λ (b : Binding). map (known_number (bind s b.symbol b.value b.first)) cs) is2 in
+    if_some c.evaluate_in.result (λ _. part.count ≤ length c.evaluate_in.new.words) _
+    (λ t more k. (λ i. numbers_at (first i) (second i) k)
+    ∙ sym (numbers_moved cs s part.turns.symbol part.low k (int_le part.low part.turns.low) (int_le z part.turns.low) (int_le (part.low +ℤ pos k) part.turns.low)))
+    c.evaluate_in.ensures.count
 
 pub returns-clause-finds : goal.returns-clause-finds
 returns-clause-finds c =

@@ -1,9 +1,9 @@
-use Rattle.std.proofs.Common.{◌<◌, ℕ, pos, ◌+ℤ◌, sym, ap, subst}
+use Rattle.std.proofs.Common.{◌<◌, ℕ, pos, ◌+ℤ◌, sym, ap, ◌∙◌, subst}
 use Rattle.std.specs.Prelude.{All, int_le}
 use Rattle.plan.specs.Symbols.{bind}
 use Rattle.interpreter.specs.Bindings.{Bindings, symbols_of}
 use Rattle.interpreter.specs.Buffers.Blocks.{memory_of}
-use Rattle.interpreter.specs.Runs.{FindsTurns}
+use Rattle.interpreter.specs.Runs.{numbers_of, FindsTurns}
 use Rattle.interpreter.specs.Steps.{Progress}
 use Rattle.interpreter.specs.Targets.{CoordinateIsNarrow}
 use Rattle.plan.specs.Semantics.Memory.{Memory}
@@ -34,3 +34,9 @@ write_part-requires-clause-finds c =
     let same = ap (λ (p : Progress). p.memory) c.evaluate_part.ensures.memory in
     subst (λ (y : Bindings). F y (memory_of c.evaluate_part.new.state.memory)) (sym c.evaluate_part.ensures.symbols)
     (subst (λ (m : Memory Value). F c.args.symbols.now m) (sym same) c.in-Some.ensures.finds)
+
+pub write_part-requires-clause-known : goal.write_part-requires-clause-known
+write_part-requires-clause-known c = λ k.
+    let part = c.args.part in
+    let cs = c.args.line.now.coordinates.now in
+    c.in-Some.ensures.numbers k ∙ ap (λ (y : Bindings). numbers_of cs (symbols_of y) part.turns.symbol part.turns.low (part.low +ℤ pos k)) (sym c.evaluate_part.ensures.symbols)

@@ -7,9 +7,9 @@ use Rattle.interpreter.proofs.scanlines.put_pixels.Goals as goal
 pub returns : goal.returns
 returns c = λ k lt.
     let row = c.args.row in
-    let out = c.put_along.new.out in
+    let out = c.put_colour.new.out in
     let first : ℕ = c.args.first in
     let start : ℕ = c.in_ok-start.start in
     let from : start ≡ first * row.colours + row.colour = search rules in
     let long : length out ≡ length c.args.out.now = search rules in
-    pixel_word row.samples.now first k row.colours row.colour start (bits_at out k) from (c.if-not-are_along.ensures k (omega (arith, lt, long))) (c.put_along.ensures k lt)
+    pixel_word row.samples.now first k row.colours row.colour start (bits_at out k) from (c.if-not-are_along.ensures k (omega (arith, lt, long))) (c.put_colour.ensures k lt)

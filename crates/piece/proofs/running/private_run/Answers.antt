@@ -65,7 +65,7 @@ returns-in-Ok c =
     let run = run_here c.runs_are_the_work.ensures y samples looked (T seen.cells.now.checked.now seen.piece seen.looked.items) j n k place calls in
     let moved = ap (λ (z : Checked). (work_of (algorithm_checked z) (plan_checked z) (certificate_checked z) samples).private_run j looked) c.checked-checked.ensures in
     let items : List ℤ → Option (List ℤ) = λ vs. Some vs in
-    ap items (c.in_ok-from_slice-in-Ok.ensures.items ∙ c.given.ensures) ∙ sym c.in-Ok.ensures.gives ∙ run ∙ moved
+    ap items c.copy_given.ensures.items ∙ sym c.in-Ok.ensures.gives ∙ run ∙ moved
 
 pub returns-in-Err-Fault : goal.returns-in-Err-Fault
 returns-in-Err-Fault c =

@@ -1,19 +1,17 @@
-use Rattle.std.proofs.Common.{◌≡◌, ◌<◌, ◌∙◌, ℕ, ℤ, List, [], length, ap, sym, subst, arith}
-use Rattle.std.specs.Prelude.{map, Contains, slice_index, slice_index_or}
+use Rattle.std.proofs.Common.{◌≡◌, ◌<◌, ◌∙◌, ℕ, List, [], length, ap, sym, subst, arith}
+use Rattle.std.specs.Prelude.{Contains, slice_index, slice_index_or}
 use Rattle.std.proofs.lemmas.Bool.{OnTrue_at, OnTrue_from}
 use Rattle.std.proofs.lemmas.List.Elements.{Contains-get_or}
-use Rattle.board.specs.Layout.{Layout, own_of, value_at}
+use Rattle.board.specs.Layout.{Layout, own_of}
 use Rattle.board.specs.Seen.{IsShown, Seen, StaysShown}
-use Rattle.board.specs.Words.{bits_of}
+use Rattle.board.specs.Sheets.{bits_at}
 use Rattle.board.proofs.InParts.{all_shown}
-use Rattle.board.proofs.Sheets.{bits_of_values}
 use Rattle.board.proofs.cells.SheetCells.show.Goals as goal
 
 pub show_in-requires-clause-values : goal.show_in-requires-clause-values
 show_in-requires-clause-values g c =
-    let V : List ℤ = g.J.Run.values in
     let own : c.get-cells.result.now ≡ own_of g.J.Run.layout c.args.piece = c.get-cells.ensures ∙ ap (λ (l : List (List ℕ)). slice_index_or l c.args.piece []) c.self.invariant.0 in
-    ap (map bits_of) (c.requires.values ∙ ap (map (value_at V)) (sym own)) ∙ bits_of_values V c.get-cells.result.now
+    c.requires.bits ∙ ap (bits_at g.J.Run.values) (sym own)
 
 pub show_in-requires-clause-inside : goal.show_in-requires-clause-inside
 show_in-requires-clause-inside g c k lt =

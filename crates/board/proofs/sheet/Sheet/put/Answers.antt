@@ -1,32 +1,25 @@
-use Rattle.std.proofs.Common.{◌≡◌, ◌+◌, ◌<◌, ◌≤◌, ◌∙◌, ℕ, ℤ, List, [], length, ap, sym, subst, arith}
-use Rattle.std.specs.Prelude.{map, Contains, slice_index, slice_index_or}
+use Rattle.std.proofs.Common.{◌≡◌, ◌+◌, ◌<◌, ◌≤◌, ◌∙◌, ℕ, List, [], length, ap, sym, subst, arith}
+use Rattle.std.specs.Prelude.{Contains, slice_index, slice_index_or}
 use Rattle.std.proofs.lemmas.List.{take_at}
 use Rattle.std.proofs.lemmas.List.Elements.{Contains-get_or}
 use Rattle.board.specs.Kept.{all_bits, in_planes, planes_of, AreSamples}
-use Rattle.board.specs.Layout.{Layout, own_of, value_at}
+use Rattle.board.specs.Layout.{Layout, own_of}
 use Rattle.board.specs.Sheets.{HasBits, IsPut}
-use Rattle.board.specs.Words.{bits_of}
 use Rattle.board.specs.declared.source.Planes.{Planes}
 use Rattle.board.proofs.ByCell.{all_fit, all_kept, all_small}
-use Rattle.board.proofs.Sheets.{all_have, bits_of_values}
+use Rattle.board.proofs.Sheets.{all_have}
 use Rattle.board.proofs.sheet.Sheet.put.Goals as goal
-
-pub put_bits-requires-clause-values : goal.put_bits-requires-clause-values
-put_bits-requires-clause-values g c =
-    let V : List ℤ = g.J.Run.values in
-    let own : c.get-cells.result.now ≡ own_of g.J.Run.layout c.args.piece = c.get-cells.ensures ∙ ap (λ (l : List (List ℕ)). slice_index_or l c.args.piece []) c.self.invariant.0 in
-    ap (map bits_of) (c.requires.values ∙ ap (map (value_at V)) (sym own)) ∙ bits_of_values V c.get-cells.result.now
 
 pub put_bits-requires-clause-inside : goal.put_bits-requires-clause-inside
 put_bits-requires-clause-inside g c k lt =
     let plan : Layout = g.J.Run.layout in
-    let own : c.get-cells.result.now ≡ own_of plan c.args.piece = c.get-cells.ensures ∙ ap (λ (l : List (List ℕ)). slice_index_or l c.args.piece []) c.self.invariant.0 in
-    let cell : ℕ = slice_index c.get-cells.result.now k in
-    let in_it : Contains (own_of plan c.args.piece) cell = subst (λ (xs : List ℕ). Contains xs cell) own (Contains-get_or c.get-cells.result.now k 0 lt) in
+    let own : c.get-own.result.now ≡ own_of plan c.args.piece = c.get-own.ensures ∙ ap (λ (l : List (List ℕ)). slice_index_or l c.args.piece []) c.self.invariant.0 in
+    let cell : ℕ = slice_index c.get-own.result.now k in
+    let in_it : Contains (own_of plan c.args.piece) cell = subst (λ (xs : List ℕ). Contains xs cell) own (Contains-get_or c.get-own.result.now k 0 lt) in
     let below : cell < plan.cells = c.self.invariant.1.parted.0 c.args.piece cell c.requires.piece in_it in
     let count = all_kept plan c.self.inside.kept (length c.self.inside.bits.items) c.self.invariant.2 in
     let same = ap length c.as_mut_slice-bits.ensures.value in
-    subst (λ (x : Planes). slice_index c.get-cells.result.now k < length c.as_mut_slice-bits.result.now + in_planes x) (sym c.planes-planes.ensures) (omega (arith, below, count, same))
+    subst (λ (x : Planes). slice_index c.get-own.result.now k < length c.as_mut_slice-bits.result.now + in_planes x) (sym c.planes-planes.ensures) (omega (arith, below, count, same))
 
 pub put_bits-requires-clause-fits : goal.put_bits-requires-clause-fits
 put_bits-requires-clause-fits g c =
@@ -46,7 +39,7 @@ put_bits-requires-clause-samples g c =
 pub returns-clause-put : goal.returns-clause-put
 returns-clause-put g c =
     let plan : Layout = g.J.Run.layout in
-    let own : c.get-cells.result.now ≡ own_of plan c.args.piece = c.get-cells.ensures ∙ ap (λ (l : List (List ℕ)). slice_index_or l c.args.piece []) c.self.invariant.0 in
+    let own : c.get-own.result.now ≡ own_of plan c.args.piece = c.get-own.ensures ∙ ap (λ (l : List (List ℕ)). slice_index_or l c.args.piece []) c.self.invariant.0 in
     let bits : List ℕ = c.put_bits.new.bits_now in
     let samples : List ℕ = c.put_bits.new.samples in
     let bits_stay = take_at bits _ _ (c.put_bits.auto.bits_now ∙ c.as_mut_slice-bits.ensures.len) in

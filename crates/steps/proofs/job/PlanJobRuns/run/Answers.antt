@@ -71,8 +71,8 @@ unreachable-requires c =
     let room = runs.room x i s.input c.args.desk.now.scratch c.requires.desk.scratch j n k place c.requires.piece in
     runs.never _ _ _ _ _ c.in_default.ensures.gives right room
 
-pub replace-requires : goal.replace-requires
-replace-requires c =
+pub copy_given-requires : goal.copy_given-requires
+copy_given-requires c =
     let s = c.args.self.now in
     let x = s.checked.now in
     let i = s.inputs.now in
@@ -85,7 +85,7 @@ replace-requires c =
     let work = work_on x i in
     let right = runs.right x i s.input c.args.desk.now.scratch c.requires.desk.scratch j n k place c.runs_are_the_work.ensures c.tell.new.told c.args.numbers.now.items plan c.tell.ensures.same.1 values c.requires.piece c.requires.looked in
     let given = same_Some _ _ (sym c.in-Ok.ensures.gives ∙ right) in
-    let long = ap length c.given.ensures ∙ ap length given ∙ length-map (work.own j) (targets_on x i) in
+    let long = ap length given ∙ length-map (work.own j) (targets_on x i) in
     let room = (c.requires.room j c.requires.piece).1 in
     omega (arith, long, room)
 
@@ -118,4 +118,4 @@ returns-clause-values c =
     let plan : c.tell.new.told.cells.now.checked.now ≡ x = ap (λ (z : PlanCells). z.checked.now) c.tell.ensures.same.0 ∙ c.requires.desk.plan in
     let values = c.tell.ensures.values ∙ c.as_slice.ensures.value in
     let some : List ℤ → Option (List ℤ) = λ vs. Some vs in
-    ap some (c.replace.ensures.items ∙ c.given.ensures) ∙ sym c.in-Ok.ensures.gives ∙ runs.gives x i s.input c.args.desk.now.scratch c.requires.desk.scratch j n k place c.runs_are_the_work.ensures c.tell.new.told c.args.numbers.now.items plan c.tell.ensures.same.1 values
+    ap some c.copy_given.ensures.items ∙ sym c.in-Ok.ensures.gives ∙ runs.gives x i s.input c.args.desk.now.scratch c.requires.desk.scratch j n k place c.runs_are_the_work.ensures c.tell.new.told c.args.numbers.now.items plan c.tell.ensures.same.1 values

@@ -1,6 +1,0 @@
-use Rattle.std.proofs.Common.{◌≡◌, take}
-use Rattle.std.specs.Prelude.{vec_capacity}
-use Rattle.steps.proofs.numbers.replace.Given as goal
-
-abbrev pub invariant-loop-number : goal.invariant-loop-number
-invariant-loop-number l = record { items : l.numbers.items ≡ take l.number-index l.by; room : vec_capacity l.numbers ≡ vec_capacity l.initial.numbers }
