@@ -209,6 +209,7 @@ narrow_stands text ls file are h = record {
     rules = narrow_file h.rules;
     whole = record {
       input = some_narrow h.rules.input.extents h.whole.input;
+      led = h.whole.led;
       statements = h.whole.statements;
       output = some_narrow h.rules.output.extents h.whole.output;
     };

@@ -14,8 +14,8 @@ use Rattle.expr.proofs.Complete.{expression_reads}
 use Rattle.expr.specs.declared.statements.error.Refusal.{Refusal}
 use Rattle.expr.specs.declared.statements.error.Refusal.TheVariants.{TooLarge}
 use Rattle.expr.specs.Statements.Text.{BoundText, DomainText, InputText, FunctionText, UpdateText, StatementText, function as a_function, update as an_update, OutputText, FileText, function_with, update_with, statement_with, file_with}
-use Rattle.expr.specs.Statements.Reading.{Parse, ◌>>=◌, expect, expect_word, name, number, from_here, expression, more_of, separated, names, numbers, expressions, bound, domain, domains, size, over, right_side, input, function, update, output, statement, statements, file}
-use Rattle.expr.specs.Statements.Grammar.{others_then, items_then, name_then, number_then, signed_then, bound_then, domain_then, size_then, over_then, right_side_then, input_then, function_then, update_then, statement_then, statements_then, output_then, file_then, HasParts, IsWhole, IsSmallStatement, IsSmall}
+use Rattle.expr.specs.Statements.Reading.{Parse, ◌>>=◌, expect, expect_word, name, number, from_here, expression, more_of, separated, names, numbers, expressions, bound, domain, domains, size, over, right_side, input, function, update, output, statement, statements, led, file}
+use Rattle.expr.specs.Statements.Grammar.{others_then, items_then, name_then, number_then, signed_then, bound_then, domain_then, size_then, over_then, right_side_then, input_then, function_then, update_then, statement_then, statements_then, output_then, file_then, HasParts, IsLed, IsWhole, IsSmallStatement, IsSmall}
 use Rattle.expr.proofs.StatementsSound.{file_sound}
 use Rattle.expr.proofs.Lengths.{Long, name_long, number_long, domain_long, sums_long, others_long, statements_long}
 
@@ -209,6 +209,12 @@ no_statement : (s : OutputText) (rest : List Token) → statement (output_then s
 unfolding statement
 no_statement s rest = refl
 
+led_reads : (ss : List (StatementText Sums)) (o : OutputText) → IsLed ss → led (statements_then ss (output_then o [])) ≡ Ok (statements_then ss (output_then o []))
+unfolding led
+led_reads [] o h = refl
+led_reads (a_function s ∷ ss) o h = refl
+led_reads (an_update s ∷ ss) o h = absurd h
+
 pub file_reads : (rules : FileText Sums) → IsWhole rules → Answers (IsSmall (file_with sums_term rules)) (file (file_then rules)) (file_with sums_term rules)
 unfolding file expect expect_word
 file_reads rules whole =
@@ -216,9 +222,10 @@ file_reads rules whole =
     let tail = statements_then rules.statements last in
     let first = input_reads rules.input tail whole.input in
     let end = output_reads rules.output [] whole.output in
+    let front = led_reads rules.statements rules.output whole.led in
     elim (statements_read (length tail) [] rules.statements last (omega (arith, statements_long rules.statements last)) whole.statements (no_statement rules.output [])) [
-      | inl ok ↦ inl (rw (first, ok, end) refl)
-      | inr e ↦ inr (e.0, rw (first, e.1) refl, e.2)
+      | inl ok ↦ inl (rw (first, front, ok, end) refl)
+      | inr e ↦ inr (e.0, rw (first, front, e.1) refl, e.2)
     ]
 
 pub reads_small : (rules : FileText Sums) → IsWhole rules → IsSmall (file_with sums_term rules) → file (file_then rules) ≡ Ok (file_with sums_term rules)

@@ -23,8 +23,8 @@ use Rattle.expr.specs.Text.{IsSmall as IsSmallTerm}
 use Rattle.expr.proofs.Sound.{expression_sound as sums_sound}
 use Rattle.expr.specs.declared.statements.error.Refusal.{Refusal}
 use Rattle.expr.specs.Statements.Text.{BoundText, DomainText, InputText, FunctionText, UpdateText, StatementText, function as a_function, update as an_update, OutputText, FileText, function_with, update_with, statement_with}
-use Rattle.expr.specs.Statements.Reading.{Parse, ◌>>=◌, or_refuse, expect, expect_word, name, type_name, untyped, number, from_here, expression, next_of, more_of, separated, names, numbers, expressions, signed_number, bound, domain, domains, size, over_domains, over, right_side, input, function, update, output, begun, statement, next_statement, statements, ended, file}
-use Rattle.expr.specs.Statements.Grammar.{others_then, items_then, name_then, number_then, bound_then, domain_then, size_then, over_then, right_side_then, input_then, function_then, update_then, statement_then, statements_then, output_then, HasParts, StandsFor, IsSmallStatement, IsSmall}
+use Rattle.expr.specs.Statements.Reading.{Parse, ◌>>=◌, or_refuse, expect, expect_word, name, type_name, untyped, number, from_here, expression, next_of, more_of, separated, names, numbers, expressions, signed_number, bound, domain, domains, size, over_domains, over, right_side, input, function, update, output, begun, statement, next_statement, statements, led_by, led, ended, file}
+use Rattle.expr.specs.Statements.Grammar.{others_then, items_then, name_then, number_then, bound_then, domain_then, size_then, over_then, right_side_then, input_then, function_then, update_then, statement_then, statements_then, output_then, HasParts, IsLed, StandsFor, IsSmallStatement, IsSmall}
 
 -- ---- inversions
 
@@ -473,6 +473,20 @@ ended_is f g (t ∷ ts) h = absurd cc
 abbrev file_of : List ℕ → InputText → List (StatementText Term) → OutputText → FileText Term
 file_of n i ss o = record { name = n; input = i; statements = ss; output = o }
 
+led_is : (ts us : List Token) (o : Option (List Token)) → led_by ts o ≡ Ok us → us ≡ ts
+led_is ts us None h = cc
+led_is ts us (Some vs) h = absurd cc
+
+led_same : (ts us : List Token) → led ts ≡ Ok us → us ≡ ts
+unfolding led
+led_same ts us h = led_is ts us (after_word word.Update ts) h
+
+led_rules : (ss : List (StatementText Sums)) (ts us vs : List Token) → led ts ≡ Ok vs → ts ≡ statements_then ss us → IsLed ss
+unfolding led
+led_rules [] ts us vs h e = tt
+led_rules (a_function s ∷ ss) ts us vs h e = tt
+led_rules (an_update s ∷ ss) ts us vs h e = let known : led (statements_then (an_update s ∷ ss) us) ≡ Ok vs = subst (λ t. led t ≡ Ok vs) e h in absurd cc
+
 pub file_sound : (tokens : List Token) (f : FileText Term) → file tokens ≡ Ok f → StandsFor tokens f × IsSmall f
 unfolding file
 file_sound tokens f h =
@@ -480,18 +494,20 @@ file_sound tokens f h =
     and_then (name start) _ f h1 (λ n name_ok h2.
     and_then (expect symbol.Semicolon n.1) _ f h2 (λ head head_ok h3.
     and_then (input head) _ f h3 (λ i input_ok h4.
-    and_then (statements (length i.1) [] i.1) _ f h4 (λ s statements_ok h5.
-    and_then (output s.1) _ f h5 (λ o output_ok h6.
-    let p = ended_is (file_of n.0 i.0 s.0 o.0) f o.1 h6 in
+    and_then (led i.1) _ f h4 (λ front led_ok h5.
+    and_then (statements (length front) [] front) _ f h5 (λ s statements_ok h6.
+    and_then (output s.1) _ f h6 (λ o output_ok h7.
+    let p = ended_is (file_of n.0 i.0 s.0 o.0) f o.1 h7 in
     let first = input_is head i.1 i.0 input_ok in
-    let middle = statements_sound (length i.1) [] i.1 s.1 s.0 statements_ok in
+    let middle = statements_sound (length front) [] front s.1 s.0 statements_ok in
+    let behind_input = sym (led_same i.1 front led_ok) ∙ middle.spelled in
     let last = output_is s.1 o.1 o.0 output_ok in
-    let after_input = middle.spelled ∙ ap (statements_then middle.rules) (last.1 ∙ ap (output_then o.0) p.1) in
+    let after_input = behind_input ∙ ap (statements_then middle.rules) (last.1 ∙ ap (output_then o.0) p.1) in
     let after_name = expect_is symbol.Semicolon n.1 head head_ok ∙ ap (λ (v : List Token). sign symbol.Semicolon ∷ v) (first.1 ∙ ap (input_then i.0) after_input) in
     let stands : StandsFor tokens f = record {
       rules = record { name = n.0; input = i.0; statements = middle.rules; output = o.0 };
-      whole = record { input = first.0; statements = middle.whole; output = last.0 };
+      whole = record { input = first.0; led = led_rules middle.rules i.1 s.1 front led_ok behind_input; statements = middle.whole; output = last.0 };
       spelled = expect_word_is word.Pipeline tokens start start_ok ∙ ap (λ (v : List Token). token.Word word.Pipeline ∷ v) (name_is start n.1 n.0 name_ok ∙ ap (name_then n.0) after_name);
       is = ap (λ (ss : List (StatementText Term)). file_of n.0 i.0 ss o.0) middle.is ∙ p.0;
     } in
-    (stands, subst IsSmall p.0 (subst (AllByRecursion IsSmallStatement) middle.is middle.small))))))))
+    (stands, subst IsSmall p.0 (subst (AllByRecursion IsSmallStatement) middle.is middle.small)))))))))

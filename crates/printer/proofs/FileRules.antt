@@ -19,7 +19,7 @@ use Rattle.expr.specs.Text.{IsSmall as IsSmallTerm}
 use Rattle.expr.specs.Statements.Text.{DomainText, FunctionText, UpdateText, StatementText, function, update, FileText, statement_with, file_with}
 use Rattle.expr.specs.Statements.Grammar.{others_then, items_then, name_then, number_then, bound_then, domain_then, size_then, over_then}
 use Rattle.expr.specs.Statements.Grammar.{right_side_then, input_then, function_then, update_then, statement_then, statements_then, output_then}
-use Rattle.expr.specs.Statements.Grammar.{file_then, HasParts, IsWhole, StandsFor, IsSmallStatement, IsSmall}
+use Rattle.expr.specs.Statements.Grammar.{file_then, HasParts, IsLed, IsWhole, StandsFor, IsSmallStatement, IsSmall}
 use Rattle.spelling.proofs.Runs.{both}
 use Rattle.printer.specs.Spacing.{has_text}
 use Rattle.printer.specs.Tokens.{name_token, number_token, one_name, one_number, behind_comma, listed, term_tokens, row_tokens, size_tokens}
@@ -255,6 +255,17 @@ all_stand a h = from_places (Stands a) a.functions (λ k f is. (take k a.functio
 pub file_small : (a : Algorithm) → IsAlgorithm a → IsSmall (file_of a)
 file_small a h = functions_small a a.functions (all_stand a h)
 
+-- ---- a function comes first
+
+led_of : (ss : List (StatementText Sums)) → IsLed (map (statement_with sums_term) ss) → IsLed ss
+led_of [] h = tt
+led_of (function s ∷ ss) h = tt
+led_of (update s ∷ ss) h = absurd h
+
+functions_lead : (fs : List Function) → IsLed (flat_map statements_of fs)
+functions_lead [] = tt
+functions_lead (f ∷ fs) = tt
+
 -- ---- the file
 
 pub file_stands : (a : Algorithm) → IsAlgorithm a → list_all has_text (algorithm_tokens a) ≡ true → StandsFor (algorithm_tokens a) (file_of a)
@@ -279,7 +290,12 @@ file_stands a h all =
     ∙ ap (λ t. token.Word word.Input ∷ t ∷ token.Type a.input_ty ∷ ((size_tokens a.input_extents ++ sign symbol.Semicolon ∷ []) ++ rest)) (sym (named a.input in_parts.0)) in
     record {
       rules = record { name = a.name; input = record { name = a.input; ty = a.input_ty; extents = a.input_extents }; statements = fs.rules; output = record { name = a.output; extents = a.output_extents } };
-      whole = record { input = some_extents a.input_extents h.input_extents; statements = fs.parts; output = some_extents a.output_extents h.output_extents };
+      whole = record {
+        input = some_extents a.input_extents h.input_extents;
+        led = led_of fs.rules (subst (λ ss. IsLed ss) (sym fs.is) (functions_lead a.functions));
+        statements = fs.parts;
+        output = some_extents a.output_extents h.output_extents;
+      };
       spelled = sym (ap (λ us. token.Word word.Pipeline ∷ token.Name a.name ∷ sign symbol.Semicolon ∷ us) (in_is ∙ ap (λ us. input ++ us) mid_is)
           ∙ ap (λ t. token.Word word.Pipeline ∷ t ∷ sign symbol.Semicolon ∷ (input ++ (middle ++ output))) (sym (named a.name head.0)));
       is = λ i. record { name = a.name; input = record { name = a.input; ty = a.input_ty; extents = a.input_extents }; statements = fs.is i; output = record { name = a.output; extents = a.output_extents } };

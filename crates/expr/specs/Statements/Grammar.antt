@@ -81,18 +81,25 @@ statements_then (s ∷ ss) rest = statement_then s (statements_then ss rest)
 abbrev pub output_then : OutputText → List Token → List Token
 output_then s rest = token.Word word.Output ∷ token.Name s.name ∷ size_then s.extents (sign symbol.Semicolon ∷ rest)
 
--- file = "pipeline" name ";" input { func | update } output
+-- file = "pipeline" name ";" input { func { update } } output
 abbrev pub file_then : FileText Sums → List Token
 file_then f = token.Word word.Pipeline ∷ token.Name f.name ∷ sign symbol.Semicolon ∷ input_then f.input (statements_then f.statements (output_then f.output []))
 
--- ---- what the grammar asks beside: an item at least in each list that is not left out
+-- ---- what the grammar asks beside: an item at least in each list that is not left out, and a function before an update
 
 abbrev pub HasParts : StatementText Sums → Type 0
 HasParts (function s) = 0 < length s.variables
 HasParts (update s) = 0 < length s.at
 
+-- no update stands before the first function
+abbrev pub IsLed : {E : Type 0} → List (StatementText E) → Type 0
+IsLed [] = Unit {0}
+IsLed (function s ∷ ss) = Unit {0}
+IsLed (update s ∷ ss) = ⊥
+
 pub record IsWhole (f : FileText Sums) : Type 0 where
   pub input : 0 < length f.input.extents
+  pub led : IsLed f.statements
   pub statements : AllByRecursion HasParts f.statements
   pub output : 0 < length f.output.extents
 

@@ -214,6 +214,14 @@ unfoldable pub statements : ℕ → List (StatementText Term) → Parse (List (S
 statements zero found ts = Ok (found, ts)
 statements (suc n) found ts = statement ts >>= λ r. next_statement (λ x. statements n (found ++ x ∷ [])) found r.1 r.0
 
+abbrev pub led_by : List Token → Option (List Token) → Result (List Token) Refusal
+led_by ts None = Ok ts
+led_by ts (Some us) = Err (BadForm (length ts))
+
+-- the same tokens, where no update begins here
+unfoldable pub led : List Token → Result (List Token) Refusal
+led ts = led_by ts (after_word word.Update ts)
+
 abbrev pub ended : FileText Term → List Token → Result (FileText Term) Refusal
 ended f [] = Ok f
 ended f (t ∷ ts) = Err (BadForm (length (t ∷ ts)))
@@ -225,6 +233,7 @@ file ts = do
   n ← name start
   head ← expect symbol.Semicolon n.1
   i ← input head
-  s ← statements (length i.1) [] i.1
+  front ← led i.1
+  s ← statements (length front) [] front
   o ← output s.1
   ended (record { name = n.0; input = i.0; statements = s.0; output = o.0 }) o.1

@@ -489,6 +489,18 @@ fn statement(alloc: Global, tokens: &[Lexeme]) -> Result<(Option<Statement>, &[L
     Ok((None, tokens))
 }
 
+// The same tokens, where no update begins here: one stands behind a function.
+#[tactic(auto, unfolding(crate::specs::Statements::Reading::led))]
+fn led(tokens: &[Lexeme]) -> Result<&[Lexeme], Stop>
+    ensures read { Gives (λ r. kinds r.now) result (spec.led (kinds tokens.now)) }
+    ensures same { IfOk result (λ r. r.now ≡ tokens.now) }
+{
+    match after_word(Word::Update, tokens) {
+        Some(_) => Err(Stop::Refused(Refusal::BadForm(tokens.len()))),
+        None => Ok(tokens),
+    }
+}
+
 // Functions and updates as long as they follow.
 fn statements(alloc: Global, tokens: &[Lexeme]) -> Result<(Vec<Statement>, &[Lexeme]), Stop>
     ensures read { Gives (λ r. (map view.statement_text r.0.items, kinds r.1.now)) result (spec.statements (length tokens.now) [] (kinds tokens.now)) }
@@ -536,6 +548,7 @@ pub fn file(alloc: Global, tokens: &[Lexeme]) -> Result<File, Stop>
     let (name, rest) = name(alloc, rest)?;
     let rest = expect(Symbol::Semicolon, rest)?;
     let (input, rest) = input(alloc, rest)?;
+    let rest = led(rest)?;
     let (statements, rest) = statements(alloc, rest)?;
     let (output, rest) = output(alloc, rest)?;
     let found = File {
