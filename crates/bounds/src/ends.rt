@@ -11,7 +11,7 @@ use numeric::Ty;
 use std::alloc::{AllocError, Global};
 
 /// The least and the greatest number that a value may be.
-#[derive(Clone, Copy, Debug, PartialEq, Eq, Drop)]
+#[derive(Clone, Copy, PartialEq, Eq, Drop)]
 pub struct Ends {
     /// The least number.
     pub low: i64,

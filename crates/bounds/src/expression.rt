@@ -19,7 +19,7 @@ use std::alloc::{AllocError, Global};
 use tree::{Expr, Names};
 
 /// What is known of an expression's value: its type and its span, none where a form leaves the limits.
-#[derive(Debug, Drop)]
+#[derive(Drop)]
 struct Bounded {
     ty: Ty,
     span: Option<Span1>,

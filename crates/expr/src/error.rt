@@ -8,7 +8,7 @@ use std::alloc::{AllocError, AllocFailed};
 use tree::token::{Span, TokenError};
 
 /// What is wrong with the tokens. A number says how many of them are left where the fault stands.
-#[derive(Clone, Copy, Debug, PartialEq, Eq, Drop)]
+#[derive(Clone, Copy, Drop)]
 pub enum Refusal {
     /// The tokens do not go on as the grammar says.
     BadForm(usize),
@@ -19,7 +19,7 @@ pub enum Refusal {
 }
 
 /// Why no expression was read from tokens.
-#[derive(Clone, Copy, Debug, PartialEq, Eq, Drop)]
+#[derive(Clone, Copy, Drop)]
 pub enum Stop {
     /// Memory ran out.
     Memory,
@@ -44,7 +44,7 @@ impl<T: Drop> From<AllocFailed<T>> for Stop {
 }
 
 /// Why a text is no expression, and where.
-#[derive(Clone, Copy, Debug, PartialEq, Eq, Drop)]
+#[derive(Clone, Copy, Drop)]
 pub enum ExprError {
     /// Memory ran out.
     Memory,

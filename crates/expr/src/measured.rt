@@ -288,7 +288,7 @@ pub(crate) fn deny(
 }
 
 /// How two conditions are combined.
-#[derive(Clone, Copy, Debug, PartialEq, Eq, Drop)]
+#[derive(Clone, Copy, Drop)]
 pub enum Joint {
     All,
     Any,

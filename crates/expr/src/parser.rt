@@ -26,7 +26,7 @@ use tree::token::{Lexeme, Name, Span, Symbol, Token, Word, after, place};
 pub const MAX_LEVELS: u8 = 64;
 
 /// The levels of the grammar, of which each next one binds tighter.
-#[derive(Clone, Copy, Debug, PartialEq, Eq, Drop)]
+#[derive(Clone, Copy, Drop)]
 pub enum Level {
     Sum,
     Product,

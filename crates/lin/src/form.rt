@@ -15,14 +15,14 @@ use std::marker::Model;
 pub type Sym = usize;
 
 /// A multiple of a symbol.
-#[derive(Clone, Copy, Debug, Default, PartialEq, Eq, Drop)]
+#[derive(Clone, Copy, Default, PartialEq, Eq, Drop)]
 pub struct Multiple {
     pub symbol: Sym,
     pub factor: i64,
 }
 
 /// A constant and terms by rising symbol, none of them with the factor 0.
-#[derive(Debug, Drop)]
+#[derive(Drop)]
 pub struct Lin {
     constant: i64,
     terms: Terms,
@@ -39,7 +39,7 @@ impl Model for Lin {
 }
 
 /// Why no form came about.
-#[derive(Debug, Drop)]
+#[derive(Drop)]
 pub enum LinError {
     /// X1: a form is outside the limits.
     Limit,

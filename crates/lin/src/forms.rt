@@ -8,7 +8,7 @@ use std::alloc::{AllocError, Global};
 use std::marker::Model;
 
 /// A list of forms, most often of one.
-#[derive(Debug, Drop)]
+#[derive(Drop)]
 pub struct Forms {
     list: SmallVec<Lin, 1>,
 }

@@ -9,7 +9,7 @@ use std::alloc::{AllocError, Global};
 use std::marker::Model;
 
 /// What is known of a symbol, by forms over earlier ones.
-#[derive(Debug, Drop)]
+#[derive(Drop)]
 pub enum Binding {
     /// A loop's symbol: within a span.
     Loop(Span1),
@@ -33,7 +33,7 @@ impl Binding {
 }
 
 /// Symbols and what is known of them. A symbol's number is its place.
-#[derive(Debug, Drop)]
+#[derive(Drop)]
 pub struct Scope {
     bindings: Vec<Binding>,
 }

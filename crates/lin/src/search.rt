@@ -65,7 +65,7 @@ fn number_of(form: &Lin) -> Option<i64>
 }
 
 /// What a search found: the bound, where there is one, and how many replacements it left.
-#[derive(Debug, Drop)]
+#[derive(Drop)]
 struct Found {
     bound: Option<i64>,
     left: usize,

@@ -8,7 +8,7 @@ use std::marker::Model;
 
 /// The forms that bound a coordinate: the largest lower and the smallest upper one count. A side without forms bounds
 /// nothing.
-#[derive(Debug, Drop)]
+#[derive(Drop)]
 pub struct Span1 {
     pub lower: Forms,
     pub upper: Forms,
@@ -27,7 +27,7 @@ impl Span1 {
 }
 
 /// The points whose coordinates each lie in a span.
-#[derive(Debug, Drop)]
+#[derive(Drop)]
 pub struct Region {
     spans: Vec<Span1>,
 }

@@ -7,7 +7,7 @@ ghost use Rattle.numeric.specs.Apply.{apply as value_of, result_type, quotient, 
 use crate::ty::{Ty, wrap};
 
 /// An operator on two values of one type.
-#[derive(Clone, Copy, Debug, PartialEq, Eq, Drop)]
+#[derive(Clone, Copy, PartialEq, Eq, Drop)]
 pub enum Op {
     Add,
     Sub,
@@ -30,7 +30,7 @@ impl Op {
 }
 
 /// A comparison of two values of one type.
-#[derive(Clone, Copy, Debug, PartialEq, Eq, Drop)]
+#[derive(Clone, Copy, PartialEq, Eq, Drop)]
 pub enum Comparison {
     Less,
     AtMost,

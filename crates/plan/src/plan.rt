@@ -5,7 +5,7 @@ use lin::Region;
 use numeric::Ty;
 
 /// The name, type and extents of an input or output.
-#[derive(Debug, Drop)]
+#[derive(Drop)]
 pub struct Declaration {
     pub name: String,
     pub ty: Ty,

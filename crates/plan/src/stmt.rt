@@ -4,7 +4,7 @@ use lin::{Forms, Lin, Region, Span1, Sym};
 use tree::Expr;
 
 /// How the turns of a loop are run.
-#[derive(Clone, Copy, Debug, PartialEq, Eq, Drop)]
+#[derive(Clone, Copy, Drop)]
 pub enum Kind {
     /// One turn after another.
     Serial,
@@ -15,7 +15,7 @@ pub enum Kind {
 }
 
 /// Which of its forms a named number is.
-#[derive(Clone, Copy, Debug, PartialEq, Eq, Drop)]
+#[derive(Clone, Copy, Drop)]
 pub enum Pick {
     /// The smallest.
     Min,
@@ -24,7 +24,7 @@ pub enum Pick {
 }
 
 /// The places that a buffer has for one coordinate.
-#[derive(Debug, Drop)]
+#[derive(Drop)]
 pub enum Places {
     /// So many places, the first for the coordinate `origin`.
     From { origin: Lin, count: u64 },

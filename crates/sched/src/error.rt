@@ -9,7 +9,7 @@ use std::alloc::{AllocError, AllocFailed};
 use tree::token::{Name, Span, TokenError};
 
 /// What is wrong with the tokens. A number says how many of them are left where the fault stands.
-#[derive(Clone, Copy, PartialEq, Eq, Drop)]
+#[derive(Clone, Copy, Drop)]
 pub enum Refusal {
     /// The tokens do not go on as the grammar says.
     BadForm(usize),
@@ -18,7 +18,7 @@ pub enum Refusal {
 }
 
 /// Why no schedule was read from tokens.
-#[derive(Clone, Copy, PartialEq, Eq, Drop)]
+#[derive(Clone, Copy, Drop)]
 pub enum Stop {
     /// Memory ran out.
     Memory,

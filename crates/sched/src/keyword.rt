@@ -6,7 +6,7 @@ ghost use Rattle.sched.specs.Words as spec;
 use crate::schedule::Tail;
 
 /// The word that a directive begins with.
-#[derive(Clone, Copy, PartialEq, Eq, Drop)]
+#[derive(Clone, Copy, Drop)]
 pub enum Keyword {
     ComputeRoot,
     ComputeAt,

@@ -13,7 +13,7 @@ use std::alloc::{AllocError, AllocFailed, Global};
 use tree::token::Name;
 
 /// How the turns of a loop are done, where they are not done one after another.
-#[derive(Clone, Copy, PartialEq, Eq, Drop)]
+#[derive(Clone, Copy, Drop)]
 pub enum Mark {
     Unrolled,
     Vectorized,
@@ -21,7 +21,7 @@ pub enum Mark {
 }
 
 /// A loop of a function.
-#[derive(Clone, Copy, PartialEq, Eq, Drop)]
+#[derive(Clone, Copy, Drop)]
 pub struct Loop {
     pub name: Name,
     /// The dimension that it walks, counted from 0.
@@ -78,7 +78,7 @@ pub struct Placed {
 }
 
 /// Why directives were not applied.
-#[derive(Clone, Copy, PartialEq, Eq, Drop)]
+#[derive(Clone, Copy, Drop)]
 pub enum Halt {
     /// Memory ran out.
     Memory,

@@ -14,21 +14,21 @@ pub enum Tail {
 }
 
 /// A loop of a function, at which another function is computed or stored.
-#[derive(Clone, Copy, PartialEq, Eq, Drop)]
+#[derive(Clone, Copy, Drop)]
 pub struct Home {
     pub function: Name,
     pub turn: Name,
 }
 
 /// The dimension of a buffer that is folded, and to how many places.
-#[derive(Clone, Copy, PartialEq, Eq, Drop)]
+#[derive(Clone, Copy, Drop)]
 pub struct Fold {
     pub dimension: Name,
     pub factor: u32,
 }
 
 /// The loop `whole` becomes the loop `outer` outside the loop `inner`, which has `factor` turns.
-#[derive(Clone, Copy, PartialEq, Eq, Drop)]
+#[derive(Clone, Copy, Drop)]
 pub struct Split {
     pub whole: Name,
     pub outer: Name,
@@ -38,7 +38,7 @@ pub struct Split {
 }
 
 /// The loops `x` and `y` are split, and both inner loops stand inside both outer ones.
-#[derive(Clone, Copy, PartialEq, Eq, Drop)]
+#[derive(Clone, Copy, Drop)]
 pub struct Tile {
     pub x: Name,
     pub y: Name,

@@ -70,7 +70,7 @@ pub struct Standing {
 }
 
 /// Why loops have no forms.
-#[derive(Clone, Copy, PartialEq, Eq, Drop)]
+#[derive(Clone, Copy, Drop)]
 pub enum SkeletonError {
     /// Memory ran out.
     Memory,

@@ -15,7 +15,7 @@ use numeric::{Op, Ty};
 
 /// Types differ, a name is not known, a call has another number of indices or an index
 /// that is no i32, or a literal is no value of its type.
-#[derive(Clone, Copy, Debug, PartialEq, Eq, Drop)]
+#[derive(Clone, Copy, Drop)]
 pub struct TypeError {
     /// The place of the smallest expression that this is so of, the first in the text.
     pub span: Span,

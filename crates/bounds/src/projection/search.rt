@@ -68,7 +68,7 @@ pub(crate) fn both(
 }
 
 /// What a search found: the bounds, none where a form left the limits, and how many replacements are left.
-#[derive(Debug, Drop)]
+#[derive(Drop)]
 struct Found {
     bounds: Option<Forms>,
     left: usize,

@@ -12,14 +12,14 @@ pub struct Named {
 }
 
 /// A number of a size, and where it stands.
-#[derive(Clone, Copy, Debug, PartialEq, Eq, Drop)]
+#[derive(Clone, Copy, Drop)]
 pub struct Extent {
     pub number: u32,
     pub span: Span,
 }
 
 /// An end of a range: the number, which is negative behind a sign, and the place of both.
-#[derive(Clone, Copy, Debug, PartialEq, Eq, Drop)]
+#[derive(Clone, Copy, Drop)]
 pub struct Bound {
     pub negative: bool,
     pub number: u32,

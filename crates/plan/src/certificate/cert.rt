@@ -3,14 +3,14 @@
 use lin::{Region, Span1, Sym};
 
 /// The region that each piece of a group owns, in the grid's symbols.
-#[derive(Debug, Drop)]
+#[derive(Drop)]
 pub struct Own {
     pub group: u64,
     pub region: Region,
 }
 
 /// The pieces of another group that each piece of a group needs: a region of that group's grid.
-#[derive(Debug, Drop)]
+#[derive(Drop)]
 pub struct Need {
     pub group: u64,
     pub needed: u64,
@@ -19,7 +19,7 @@ pub struct Need {
 
 /// After the statement that ends at a line of the plan, a buffer holds a definition of a function
 /// at every point of a region.
-#[derive(Debug, Drop)]
+#[derive(Drop)]
 pub struct Claim {
     pub line: u64,
     pub buffer: u64,
@@ -31,7 +31,7 @@ pub struct Claim {
 
 /// A claim that lives on from turn to turn of a loop, in which its region moves on along one
 /// dimension.
-#[derive(Debug, Drop)]
+#[derive(Drop)]
 pub struct Window {
     pub claim: u64,
     pub symbol: Sym,
@@ -42,7 +42,7 @@ pub struct Window {
 }
 
 /// A certificate of a plan.
-#[derive(Debug, Drop)]
+#[derive(Drop)]
 pub struct Cert {
     pub own: Vec<Own>,
     pub needs: Vec<Need>,

@@ -1,7 +1,7 @@
 //! What a name in a stored expression means.
 
 /// What a name in a stored expression means.
-#[derive(Clone, Copy, Debug, PartialEq, Eq, Drop)]
+#[derive(Clone, Copy, Drop)]
 pub enum Source {
     /// The input.
     Input,

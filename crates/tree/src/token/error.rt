@@ -7,7 +7,7 @@ use crate::token::span::Span;
 use std::alloc::{AllocError, AllocFailed};
 
 /// Why the tokens of a text were not found.
-#[derive(Clone, Copy, Debug, PartialEq, Eq, Drop)]
+#[derive(Clone, Copy, Drop)]
 pub enum TokenError {
     /// Memory ran out.
     Memory,

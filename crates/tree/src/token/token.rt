@@ -5,7 +5,7 @@ use crate::token::span::Span;
 use numeric::Ty;
 
 /// A word of the grammar, which is no name.
-#[derive(Clone, Copy, Debug, PartialEq, Eq, Drop)]
+#[derive(Clone, Copy, PartialEq, Eq, Drop)]
 pub enum Word {
     Pipeline,
     Input,
@@ -23,7 +23,7 @@ pub enum Word {
 }
 
 /// A sign of the grammar.
-#[derive(Clone, Copy, Debug, PartialEq, Eq, Drop)]
+#[derive(Clone, Copy, PartialEq, Eq, Drop)]
 pub enum Symbol {
     Plus,
     Minus,
@@ -48,14 +48,14 @@ pub enum Symbol {
 }
 
 /// A number as it is written, with its type if that stands behind it. It is in its type, or in `i32` if it has none.
-#[derive(Clone, Copy, Debug, PartialEq, Eq, Drop)]
+#[derive(Clone, Copy, Drop)]
 pub struct Literal {
     pub value: u32,
     pub ty: Option<Ty>,
 }
 
 /// What a piece of a text is.
-#[derive(Clone, Copy, Debug, PartialEq, Eq, Drop)]
+#[derive(Clone, Copy, Drop)]
 pub enum Token {
     /// A word that is no type and no word of the grammar.
     Name(Name),
@@ -68,7 +68,7 @@ pub enum Token {
 }
 
 /// A token, and where it stands in the text.
-#[derive(Clone, Copy, Debug, PartialEq, Eq, Drop)]
+#[derive(Clone, Copy, Drop)]
 pub struct Lexeme {
     pub token: Token,
     pub span: Span,

@@ -62,7 +62,7 @@ impl K {
 
 /// What is wrong with a plan or its certificate, and the line of their text at which it stands. Lines past the greatest
 /// `u32` are told as that.
-#[derive(Clone, Copy, Debug, PartialEq, Eq, Drop)]
+#[derive(Clone, Copy, PartialEq, Eq, Drop)]
 pub struct Flaw {
     pub code: K,
     pub line: u32,
