@@ -34,7 +34,20 @@ fn flaw_of_task(asked: Asked<'_>, task: usize) -> Result<Option<Flaw>, AllocErro
     }
 }
 
-/// What so many tasks tell, in as many threads as there are processors.
+/// With fewer lines than these a plan is asked in the caller's thread alone: a thread more would take longer to start than these
+/// lines take.
+const FEW_LINES: u32 = 256;
+
+/// How many tasks a thread is given at least, of so many of a plan whose certificate begins at a line: all of them where the lines
+/// are few.
+fn least_tasks(line: u32, tasks: usize) -> usize {
+    if line < FEW_LINES {
+        return tasks;
+    }
+    1
+}
+
+/// What so many tasks tell: in the caller's thread where the plan has few lines, else in as many threads as there are processors.
 fn told_by_tasks<R: Threads + Sync>(
     rt: &R,
     asked: Asked<'_>,
@@ -45,7 +58,7 @@ fn told_by_tasks<R: Threads + Sync>(
 {
     (0..tasks)
         .into_par_iter()
-        .with_min_len(1)
+        .with_min_len(least_tasks(asked.line, tasks))
         .map(
             |task: usize| -> Result<Option<Flaw>, AllocError>
                 requires { task < 2 * length asked.plan.now.groups.items }
@@ -60,8 +73,9 @@ fn told_by_tasks<R: Threads + Sync>(
 /// stands twice or a buffer that is allocated twice, `K4`, `K5`, `K6`, `K7` and `K8`, and `K12` for a call that an update makes of
 /// its own function at a point that its step does not meet.
 ///
-/// The lines and the claims of each group are asked for side by side, in as many threads as there are processors. Where a
-/// group has a flaw, it is asked again, about as often as its line's number has binary digits.
+/// The lines and the claims of each group are asked for side by side, in as many threads as there are processors, but for plans of
+/// fewer than 256 lines, which the caller's thread asks alone. Where a group has a flaw, it is asked again, about as often as its
+/// line's number has binary digits.
 ///
 /// # Errors
 /// Want of memory. A plan in which a group's body reaches line 2^32 - 1 counts as that.

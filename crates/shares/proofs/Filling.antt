@@ -1,10 +1,10 @@
 -- A run of cells that are noted as taken all at once.
-use Rattle.std.proofs.Common.{◌≡◌, ◌≢◌, ℕ, zero, suc, ◌+◌, ◌-◌, ◌<◌, ◌≤◌, List, [], ◌∷◌, ◌++◌, length, take, drop, set, get_or, replicate, Bool, true, false, Option, Some, None, arith, ap, refl, sym, ◌∙◌, subst, inl, inr}
-use Rattle.std.specs.Prelude.{◌⊎◌, slice_get, All, IsTrue, IsFalse, ◌||◌}
+use Rattle.std.proofs.Common.{◌≡◌, ◌≢◌, ℕ, zero, suc, ◌+◌, ◌-◌, ◌<◌, ◌≤◌, List, length, set, get_or, Bool, true, false, Option, Some, None, arith, ap, refl, sym, ◌∙◌, subst, inl, inr}
+use Rattle.std.specs.Prelude.{◌⊎◌, slice_get}
+use Rattle.std.proofs.lemmas.Grind.{get_or-set_at}
 use Rattle.std.proofs.lemmas.Bool.{cases_lt, cases_eq, false≢true}
-use Rattle.std.proofs.lemmas.List.{get_or-drop, get_or-set_other, get_or-take, length-drop, length-set, length-take-le}
-use Rattle.std.proofs.lemmas.List.Elements.{All-more}
-use Rattle.std.proofs.lemmas.Option.{none-some, same_Some, get_or_from_slice_get, slice_get-get_or, slice_get_past, slice_get_within}
+use Rattle.std.proofs.lemmas.List.{get_or-set_other, length-set}
+use Rattle.std.proofs.lemmas.Option.{none-some, same_Some, slice_get-get_or, slice_get_past, slice_get_within}
 use Rattle.orders.specs.Work.{OwnIsParted}
 use Rattle.orders.specs.declared.cell_runs.CellRun.{CellRun}
 use Rattle.shares.specs.Taken.{AreTaken, HasRun, free_count}
@@ -19,14 +19,26 @@ filled taken first (suc n) = set (filled taken first n) (first + n) true
 abbrev pub AreFree : List Bool → ℕ → ℕ → Type 0
 AreFree taken first n = (k : ℕ) → k < n → slice_get taken (first + k) ≡ Some false
 
-filled_long : (taken : List Bool) (first n : ℕ) → length (filled taken first n) ≡ length taken
+pub filled_long : (taken : List Bool) (first n : ℕ) → length (filled taken first n) ≡ length taken
 filled_long taken first zero = refl
 filled_long taken first (suc n) = length-set (filled taken first n) (first + n) true ∙ filled_long taken first n
 
-filled_get : (taken : List Bool) (first n i : ℕ) (d : Bool) → first + n ≤ i → get_or (filled taken first n) i d ≡ get_or taken i d
+pub filled_get : (taken : List Bool) (first n i : ℕ) (d : Bool) → first + n ≤ i → get_or (filled taken first n) i d ≡ get_or taken i d
 filled_get taken first zero i d from = refl
 filled_get taken first (suc n) i d from =
     get_or-set_other (filled taken first n) (first + n) i true d (λ same. (let e : i ≡ first + n = same in absurd (omega (arith, e, from)))) ∙ filled_get taken first n i d (omega (arith, from))
+
+pub filled_before : (taken : List Bool) (first n i : ℕ) (d : Bool) → i < first → get_or (filled taken first n) i d ≡ get_or taken i d
+filled_before taken first zero i d under = refl
+filled_before taken first (suc n) i d under =
+    get_or-set_other (filled taken first n) (first + n) i true d (λ same. (let e : i ≡ first + n = same in absurd (omega (arith, e, under)))) ∙ filled_before taken first n i d under
+
+pub filled_inside : (taken : List Bool) (first n i : ℕ) (d : Bool) → first ≤ i → i < first + n → i < length taken → get_or (filled taken first n) i d ≡ true
+filled_inside taken first zero i d from to less = absurd (omega (arith, from, to))
+filled_inside taken first (suc n) i d from to less = elim (cases_eq i (first + n)) [
+  | inl is ↦ (let long = filled_long taken first n in get_or-set_at (filled taken first n) (first + n) i true d is (omega (arith, is, less, long)))
+  | inr other ↦ get_or-set_other (filled taken first n) (first + n) i true d other ∙ filled_inside taken first n i d from (omega (arith, other, to)) less
+]
 
 -- the cells behind those are as they were
 filled_behind : (taken : List Bool) (first n i : ℕ) → first + n ≤ i → slice_get (filled taken first n) i ≡ slice_get taken i
@@ -92,40 +104,8 @@ run_clash own taken p a r has start held parted = elim (first_held taken r.first
       (subst (λ (m : ℕ). OwnIsParted (p + 1) m own) (sym (filled_long taken r.first k)) parted)
 ]
 
-pub filled_next : (taken : List Bool) (first n : ℕ) → filled taken first (n + 1) ≡ set (filled taken first n) (first + n) true
-filled_next taken first n = ap (filled taken first) (let e : n + 1 ≡ suc n = omega arith in e)
-
--- where none of the run's cells is taken, each is free
-pub none_taken : (taken : List Bool) (first count : ℕ) → first + count ≤ length taken → All (λ one. one ≡ false) (take count (drop first taken)) → AreFree taken first count
-none_taken taken first count within none k less =
-    let long = length-drop first taken in
-    let all = length-take-le count (drop first taken) (omega (arith, within, long)) in
-    let is : get_or (take count (drop first taken)) k false ≡ get_or taken (first + k) false = get_or-take count (drop first taken) k false less ∙ get_or-drop first taken k false in
-    slice_get-get_or taken (first + k) false (omega (arith, within, less)) ∙ ap Some (sym is ∙ none k false (omega (arith, all, less)))
-
--- and where one is, not all are
-pub some_taken : (taken : List Bool) (first count k : ℕ) → first + count ≤ length taken → slice_get (take count (drop first taken)) k ≡ Some true → AreFree taken first count → ⊥
-some_taken taken first count k within held free =
-    let long = length-drop first taken in
-    let all = length-take-le count (drop first taken) (omega (arith, within, long)) in
-    let less : k < count = (let w = slice_get_within (take count (drop first taken)) k true held in omega (arith, w, all)) in
-    let is : get_or (take count (drop first taken)) k false ≡ get_or taken (first + k) false = get_or-take count (drop first taken) k false less ∙ get_or-drop first taken k false in
-    let here : get_or (take count (drop first taken)) k false ≡ true = get_or_from_slice_get (take count (drop first taken)) k true false held in
-    let there : get_or taken (first + k) false ≡ false = get_or_from_slice_get taken (first + k) false false (free k less) in
-    false≢true (sym there ∙ sym is ∙ here)
-
 -- and where the run leaves the table, its last cell is not free
 pub run_leaves : (taken : List Bool) (first count : ℕ) → 0 < count → length taken < first + count → AreFree taken first count → ⊥
 run_leaves taken first count some past free =
     let last : count - 1 < count = omega (arith, some) in
     let w = slice_get_within taken (first + (count - 1)) false (free (count - 1) last) in omega (arith, w, past, some)
-
--- one more is looked at
-pub any_more : (any : Bool) (xs : List Bool) (n : ℕ) → n < length xs → (IsFalse any → All (λ one. one ≡ false) (take n xs)) × (IsTrue any → (k : ℕ) × (slice_get xs k ≡ Some true)) →
-    (IsFalse (any || get_or xs n false) → All (λ one. one ≡ false) (take (n + 1) xs)) × (IsTrue (any || get_or xs n false) → (k : ℕ) × (slice_get xs k ≡ Some true))
-any_more true xs n less h = ((λ none. absurd (cc none)), (λ yes. h.1 refl))
-any_more false xs n less h = of (get_or xs n false) refl
-  where
-    of : (b : Bool) → get_or xs n false ≡ b → (IsFalse b → All (λ one. one ≡ false) (take (n + 1) xs)) × (IsTrue b → (k : ℕ) × (slice_get xs k ≡ Some true))
-    of true e = ((λ none. absurd (cc none)), (λ yes. (n, slice_get-get_or xs n false less ∙ ap Some e)))
-    of false e = ((λ none. All-more (λ one. one ≡ false) xs n false less (h.0 refl) e), (λ yes. absurd (cc yes)))

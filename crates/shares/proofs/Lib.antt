@@ -20,6 +20,7 @@ pub mod Looking
 pub mod Finding
 pub mod RowRuns
 pub mod Filling
+pub mod Marking
 pub mod Lines
 pub mod Empty
 pub mod Grouped

@@ -1,16 +1,14 @@
 -- The table of taken cells, as it is filled.
-use Rattle.std.proofs.Common.{◌≡◌, ℕ, zero, suc, ◌+◌, ◌<◌, ◌≤◌, List, [], ◌∷◌, ◌++◌, length, map, set, take, drop, get_or, replicate, Bool, true, false, cond, arith, ap, refl, sym, ◌∙◌, subst, Option, Some, None, inl, inr, nat_eq}
+use Rattle.std.proofs.Common.{◌≡◌, ℕ, zero, suc, ◌+◌, ◌<◌, ◌≤◌, List, [], ◌∷◌, length, map, set, get_or, replicate, Bool, true, false, cond, arith, ap, refl, sym, ◌∙◌, subst, Option, Some, None, nat_eq}
 use Rattle.std.specs.Prelude.{Contains, IsTrue, IsFalse, slice_get, not, is_some}
 use Rattle.std.specs.Option.{option_map}
-use Rattle.std.proofs.lemmas.Bool.{cases_lt, false≢true}
+use Rattle.std.proofs.lemmas.Bool.{false≢true}
 use Rattle.std.proofs.lemmas.Bool.Decides.{nat_tests}
-use Rattle.std.proofs.lemmas.List.{map-set, length-map, get_or-map, append-nil, drop_all, take_all}
+use Rattle.std.proofs.lemmas.List.{map-set, length-map, get_or-map}
 use Rattle.std.proofs.lemmas.List.Folds.{sum_by-replicate}
 use Rattle.std.proofs.lemmas.List.Sums.{sum_by-set, sum_by-cons}
 use Rattle.std.proofs.lemmas.Option.{none-some, same_Some, slice_get-map, slice_get_within, get_or_from_slice_get}
-use Rattle.orders.specs.Work.{OwnIsParted, OwnIsWhole, NeedsServe}
-use Rattle.orders.specs.Lists.{own_lists, fetched_lists, needs_lists, fetched_of, needs_of}
-use Rattle.orders.specs.declared.lists.Piece.{Piece}
+use Rattle.orders.specs.Work.{OwnIsParted, OwnIsWhole}
 use Rattle.orders.proofs.Claiming.{claimed_none, claimed_more, claimed_next, claimed_clash, claimed_parted, claimed_whole, unowned}
 use Rattle.shares.specs.Taken.{AreTaken, free_count}
 
@@ -116,8 +114,3 @@ taken_gap own taken pieces cells t long some =
       omega (arith, within, long),
       λ k less has. unowned own t.0 pieces y.0 k t.1 (free_owner taken t.0 y.0 t.2 y.1) less has,
     )
-
--- a vector into all of which something was written is that
-pub written : (len : ℕ) (new old : List Bool) → length new ≡ length old → len ≡ length old → take len (new ++ drop (length new) old) ≡ new
-written len new old same long =
-    ap (λ (rest : List Bool). take len (new ++ rest)) (drop_all (length new) old (omega (arith, same))) ∙ ap (take len) (append-nil new) ∙ take_all len new (omega (arith, same, long))

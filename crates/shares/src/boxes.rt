@@ -12,7 +12,7 @@ use lin::Span1;
 use std::alloc::{AllocError, Global};
 
 /// So many whole numbers from `low` on.
-#[derive(Clone, Copy, PartialEq, Eq, Drop)]
+#[derive(Clone, Copy, Drop)]
 pub struct Side {
     pub low: i64,
     pub count: u64,

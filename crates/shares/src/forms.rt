@@ -11,7 +11,7 @@ ghost use Rattle.shares.specs.Lets.{ValuesAreSmall, symbols_at};
 use lin::{Forms, Lin, Multiple, Sym};
 
 /// The value of a symbol that is none of the grid's.
-#[derive(Clone, Copy, PartialEq, Eq, Drop)]
+#[derive(Clone, Copy, Drop)]
 pub struct Value {
     pub symbol: Sym,
     pub value: i64,

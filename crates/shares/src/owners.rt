@@ -12,7 +12,7 @@ ghost use Rattle.shares.specs.Faults.{IsApart};
 ghost use Rattle.shares.specs.Owned.{AreOwners};
 
 use crate::layout::{Layout, own_of};
-use crate::taken::take_cells;
+use crate::taken::TakenCells;
 use orders::{CellRuns, Piece, claim_cell};
 use std::alloc::{AllocError, Global};
 
@@ -57,7 +57,7 @@ fn push_own(alloc: Global, pieces: &mut Vec<Piece>, own: CellRuns) -> Result<(),
 /// The own cells of each piece, whether each cell is one, and whether all own regions stay inside, or the first piece with an own
 /// cell that an earlier one owns.
 ///
-/// The time is linear in the cells and the pieces. Beside the lists, whose memory is that of their runs, a cell takes a byte.
+/// The time is linear in the cells and the pieces. Beside the lists, whose memory is that of their runs, a cell takes a bit.
 pub(crate) fn owners_of(
     alloc: Global,
     layout: &Layout<'_>,
@@ -68,13 +68,13 @@ pub(crate) fn owners_of(
     ensures owned { IfOk result (λ answer. IfOk answer (AreOwners (plan_of layout.now.plan.now) (certificate_of layout.now.cert.now))) }
     ensures overlap { IfOk result (λ answer. IfErr answer (λ piece. (piece < length layout.now.seats.items) × ¬ IsApart (plan_of layout.now.plan.now) (certificate_of layout.now.cert.now) piece)) }
 {
-    let mut taken: Vec<bool> = vec![in alloc; false; count as usize]?;
+    let mut taken = TakenCells::new(alloc, count)?;
     let mut pieces = Vec::with_capacity(alloc, layout.seats.len())?;
     let mut free = count;
     let mut inside = true;
     for piece in 0..layout.seats.len() as u32 {
         let own = own_of(alloc, layout, piece)?;
-        if !take_cells(taken.as_mut_slice(), &own.cells) {
+        if !taken.take_cells(&own.cells) {
             return Ok(Err(piece));
         }
         free -= own.cells.len() as u32;

@@ -9,9 +9,9 @@ use Rattle.shares.proofs.owners.owners_of.Given as goal
 
 abbrev pub invariant-loop-piece : goal.invariant-loop-piece
 invariant-loop-piece l = record {
-  taken : AreTaken (own_list (plan_of l.layout.plan.now) (certificate_of l.layout.cert.now)) l.taken.items l.piece 0;
-  long : length l.taken.items ≡ l.count;
-  free : free_count l.taken.items ≡ l.free;
+  taken : AreTaken (own_list (plan_of l.layout.plan.now) (certificate_of l.layout.cert.now)) l.taken l.piece 0;
+  long : length l.taken ≡ l.count;
+  free : free_count l.taken ≡ l.free;
   count : length l.pieces.items ≡ l.piece;
   own : (n : ℕ) (x : Piece) → slice_get l.pieces.items n ≡ Some x → x.own ≡ own_list (plan_of l.layout.plan.now) (certificate_of l.layout.cert.now) n;
   inside : IsTrue l.inside → (i : ℕ) → i < l.piece → OwnIsInside (plan_of l.layout.plan.now) (certificate_of l.layout.cert.now) i;
