@@ -139,6 +139,19 @@ def cases():
     return [*found, Case("no words", [], {}, GIVEN), Case("plain A - -", ["plain", "A", "-", "-"], {"A": COPY}, ROW)]
 
 
+def long_cases(program):
+    """Commands on a plan that is long enough to be checked in several threads: one group for each of 48 functions."""
+    last = 47
+    functions = ["func f0 u8 (x) = in[x] + 1u8;", *(f"func f{k} u8 (x) = f{k - 1}[x] + 1u8;" for k in range(1, last + 1))]
+    text = "\n".join(["pipeline long;", "input in u8 [4];", *functions, f"output f{last} [4];", ""])
+    with tempfile.TemporaryDirectory() as room:
+        (Path(room) / "A").write_text(text)
+        (Path(room) / "S").write_text("".join(f"f{k}.compute_root();\n" for k in range(last)))
+        subprocess.run([program, "compile", "A", "S", "P"], cwd=room, check=True, capture_output=True)
+        files = {"A": text.encode(), "P": (Path(room) / "P").read_bytes(), "I": ROW}
+    return [Case(f"long: {command}", command.split(), files | ({"out": OLD} if "out" in command else {})) for command in ("check A P", "run A P I out")]
+
+
 def run(program, case, settings=None, before=None, room=None):
     """Runs a case with the library's settings, in a folder where nothing but its files lies or in one where it ran before."""
     place = Path(room or laid(case))
@@ -202,7 +215,7 @@ def with_counts(program, library, case):
     case.ended = tuple(run(program, replace(case, files=case.files | {name: b""})) for name in ("S", "bad", "order") if name in case.files)
     again, case.counts = counted(program, library, case, {})
     _, case.short = counted(program, library, case, {"REFUSE_SHORT": "1"})
-    return case if case.counts and case.counts["open"] and again == case.right else None
+    return case if case.counts and case.counts["memory"] and again == case.right else None
 
 
 # ---- faults ----
@@ -457,7 +470,8 @@ def main():
         if library is None:
             print("not tried: no gcc that makes the library")
             return 0
-        ready = list(spread(lambda case: with_counts(program, library, case), [one for one in cases() if given.only in one.name], 1))
+        chosen = [one for one in [*cases(), *long_cases(program)] if given.only in one.name]
+        ready = list(spread(lambda case: with_counts(program, library, case), chosen, 1))
         if None in ready:
             print("not tried: the program does not run with the library")
             return 0

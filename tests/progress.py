@@ -13,7 +13,7 @@ HEIGHT = 64
 TEXT = """pipeline slow;
 input in u8 [{width}, 64];
 func sum u32 (x, y) = 0u32;
-update sum over (r 0..255) [x, y] = sum[x, y] + u32(in[x, y]) * u32(r);
+update sum over (r 0..2047) [x, y] = sum[x, y] + u32(in[x, y]) * u32(r);
 func out u8 (x, y) = u8(sum[x, y]);
 output out [{width}, 64];
 """

@@ -1,6 +1,6 @@
 //! What stands in the cells once one worker has finished all pieces.
 
-use crate::example_tests::{INC, algo_of, checked_of, inputs_of};
+use crate::example_tests::{INC, algo_of, checked_of, inputs_of, shows};
 use algo::Inputs;
 use checked_plan::Checked;
 use std::alloc::Global;
@@ -18,7 +18,7 @@ fn is_picture(alloc: Global, checked: &Checked<'_>, inputs: &Inputs) -> bool {
         return false;
     }
     match picture(alloc, checked, inputs) {
-        Ok(image) => image.samples.as_slice() == PICTURE.as_slice(),
+        Ok(image) => shows(&image, &PICTURE),
         Err(_) => false,
     }
 }

@@ -3,7 +3,7 @@
 use algo::{Algo, Inputs};
 use audit::check;
 use checked_plan::Checked;
-use meaning::image::Image;
+use meaning::image::{Image, Samples};
 use std::alloc::{AllocError, Global};
 use std::process::Abort;
 use std::thread::Threads;
@@ -101,8 +101,21 @@ fn image_of(alloc: Global, algo: &Algo, samples: &[u16]) -> Result<Image, AllocE
     Ok(Image {
         ty: shape.ty,
         extents: shape.extents,
-        samples: samples.to_vec(alloc)?,
+        samples: Samples::Words(samples.to_vec(alloc)?),
     })
+}
+
+/// Whether the samples of an image are these.
+pub(crate) fn shows(image: &Image, picture: &[u16]) -> bool {
+    if image.samples.len() != picture.len() {
+        return false;
+    }
+    for (place, sample) in picture.iter().enumerate() {
+        if image.samples.at(place) != *sample {
+            return false;
+        }
+    }
+    true
 }
 
 /// The samples as an input of the algorithm.

@@ -1,7 +1,7 @@
 //! Crews whose pieces are watched.
 
 use crate::chain_tests::{chain, chain_plan};
-use crate::example_tests::{Example, TRI, TRI_PICTURE, algo_of, checked_of, inputs_of};
+use crate::example_tests::{Example, TRI, TRI_PICTURE, algo_of, checked_of, inputs_of, shows};
 use crate::watching_tests::{Counting, InOrder, Meeting};
 use algo::Inputs;
 use checked_plan::Checked;
@@ -26,7 +26,7 @@ fn compute<G: Gate, R: Threads + Wait + Sync>(
         return false;
     }
     match run(rt, alloc, checked, inputs, workers, gate) {
-        Ok(image) => image.samples.as_slice() == picture,
+        Ok(image) => shows(&image, picture),
         Err(_) => false,
     }
 }

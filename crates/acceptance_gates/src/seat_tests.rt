@@ -112,10 +112,11 @@ fn after_the_second<J: Run, R: Wait>(
     work(rt, alloc, &board, &mut second, pieces, desk, &Unwatched);
     drop(second);
     let image = board.close(first).ok()?;
-    match image.samples.as_slice() {
-        [left, right] => Some((u32::from(*left), u32::from(*right))),
-        _ => None,
+    if image.samples.len() != 2 {
+        return None;
     }
+    let (left, right) = (image.samples.at(0), image.samples.at(1));
+    Some((u32::from(left), u32::from(right)))
 }
 
 // Whether a seat that asks again and again comes to know a piece within 10,000 turns.

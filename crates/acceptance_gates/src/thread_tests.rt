@@ -6,7 +6,7 @@ ghost use Rattle.board.specs.Views.{IsIdle};
 ghost use Rattle.crew.specs.Crews.{ArePieces, IsDeskFor};
 ghost use Rattle.crew.specs.Opening.Layouts.{layout_of, values_of};
 
-use crate::example_tests::{TRI, TRI_PICTURE, algo_of, checked_of, inputs_of};
+use crate::example_tests::{TRI, TRI_PICTURE, algo_of, checked_of, inputs_of, shows};
 use crate::seat_tests::{board_of, cells_of, desk_of};
 use crate::watching_tests::Meeting;
 use crate::worker::Worker;
@@ -188,7 +188,7 @@ fn compute_by_two<J: Run + Send + Sync, R: Threads + Wait + Sync + Abort, G: Gat
         return false;
     };
     match board.close(seat) {
-        Ok(image) => image.samples.as_slice() == picture,
+        Ok(image) => shows(&image, picture),
         Err(_) => false,
     }
 }

@@ -1,6 +1,8 @@
 -- What algorithms and inputs say.
-use Rattle.std.specs.Prelude.{ℕ, ◌≤◌, List, length, MatchOption, slice_get}
+use Rattle.std.specs.Prelude.{ℕ, ◌≤◌, List, length, MatchOption, slice_get, vec_capacity}
 use Rattle.meaning.specs.Image.View.{Frame, image_of, HasShape, Picture}
+use Rattle.meaning.specs.declared.image.samples.Samples.{Samples}
+use Rattle.meaning.specs.declared.image.samples.Samples.TheVariants.{Bytes, Words}
 use Rattle.meaning.specs.Algorithm.{Algorithm}
 use Rattle.meaning.specs.Picture.{picture}
 use Rattle.algo.specs.declared.algorithm.Algo.{Algo}
@@ -21,6 +23,14 @@ picture_of i = image_of i.image
 
 abbrev pub samples_of : Inputs → List ℕ
 samples_of i = (picture_of i).samples
+
+-- how many bytes the memory of its samples holds, where they are kept in one byte each
+abbrev pub memory_in : Samples → ℕ
+memory_in (Bytes bytes) = vec_capacity bytes
+memory_in (Words words) = 0
+
+abbrev pub memory_of : Inputs → ℕ
+memory_of i = memory_in i.image.samples
 
 -- the type and the extents of the image
 abbrev pub frame_of : Inputs → Frame

@@ -11,7 +11,7 @@ use thiserror::Error;
 use tree::token::Span;
 
 /// What a text breaks.
-#[derive(Clone, Copy, Debug, PartialEq, Eq, Error)]
+#[derive(Clone, Copy, Debug, Error)]
 pub enum Code {
     /// What stands here is no token.
     #[error("E1")]
@@ -49,7 +49,7 @@ pub enum Code {
 }
 
 /// Why a text is no algorithm.
-#[derive(Clone, Copy, Debug, PartialEq, Eq, Error)]
+#[derive(Clone, Copy, Debug, Error)]
 pub enum AlgoError {
     /// Memory ran out.
     #[error("M0")]

@@ -4,11 +4,12 @@ ghost use Rattle.meaning.specs.Image.View.{image_of};
 ghost use Rattle.algo.specs.Frames.{IsWhole, IsWhole-prop};
 
 use crate::algorithm::Algo;
-use meaning::image::Image;
+use meaning::image::{Image, Samples};
+use std::alloc::Global;
 use thiserror::Error;
 
 /// Why an image is no input of an algorithm.
-#[derive(Clone, Copy, Debug, PartialEq, Eq, Error)]
+#[derive(Clone, Copy, Debug, Error)]
 pub enum InputsError {
     /// Type, extents, or the samples' number or range are not the algorithm's.
     #[error("G3")]
@@ -23,11 +24,11 @@ pub struct Inputs {
 }
 
 impl Inputs {
-    ghost use Rattle.std.specs.Prelude.{◌≡◌, ◌↔◌, MatchResult, IsTrue};
+    ghost use Rattle.std.specs.Prelude.{◌≡◌, ◌↔◌, ◌≤◌, [], MatchResult, IsTrue, vec_capacity};
     ghost use Rattle.numeric.specs.declared.ty.Ty.{Ty};
     ghost use Rattle.meaning.specs.Image.View.{HasShape};
     ghost use Rattle.algo.specs.Parts.{input_frame};
-    ghost use Rattle.algo.specs.View.{algorithm_of, picture_of, IsFor};
+    ghost use Rattle.algo.specs.View.{algorithm_of, memory_of, picture_of, IsFor};
 
     /// Takes an image as the algorithm's input, where it has the type and the extents that the algorithm states,
     /// and as many samples as these make, each within the type. Any other image comes back.
@@ -49,6 +50,32 @@ impl Inputs {
         ensures whole { IsWhole (picture_of self.now) }
     {
         &self.image
+    }
+
+    /// How many bytes the memory of the samples holds, where they are kept in one byte each; else none.
+    pub fn memory(&self) -> usize
+        ensures { result ≡ memory_of self.now }
+    {
+        match &self.image.samples {
+            Samples::Bytes(bytes) => bytes.capacity(),
+            Samples::Words(_) => 0,
+        }
+    }
+
+    /// The memory of the samples, where they are kept in one byte each, as a list without bytes; else such a list without memory.
+    pub fn into_memory(self, alloc: Global) -> Vec<u8>
+        ensures none { result.items ≡ [] }
+        ensures room { memory_of self ≤ vec_capacity result }
+    {
+        let Inputs { image } = self;
+        let Image { samples, .. } = image;
+        match samples {
+            Samples::Bytes(mut bytes) => {
+                bytes.clear();
+                bytes
+            }
+            Samples::Words(_) => Vec::new(alloc),
+        }
     }
 
     /// Whether the image is one for this algorithm.

@@ -1,21 +1,23 @@
 -- The samples of cells that stand in planes.
-use Rattle.std.proofs.Common.{◌≡◌, ℕ, zero, suc, ◌+◌, ◌*◌, ◌/◌, ◌%◌, ◌-◌, ◌^◌, ◌<◌, ◌≤◌, ℤ, List, ◌++◌, length, get_or, set, refl, sym, ap, subst, ◌∙◌, arith, get_or-set_same, get_or-set_other}
+use Rattle.std.proofs.Common.{◌≡◌, ℕ, zero, suc, ◌+◌, ◌*◌, ◌/◌, ◌%◌, ◌-◌, ◌^◌, ◌<◌, ◌≤◌, ℤ, List, length, get_or, set, inl, inr, refl, sym, ap, subst, ◌∙◌, arith}
 use Rattle.std.specs.Prelude.{slice_index}
-use mathlib.Core.Logic.{dite}
-use native.Mathlib.Decide.{ℕ_discrete}
 use Rattle.std.proofs.Math.Nat.{div-lt_iff_lt-mul, mod-lt, mul_comm}
 use Rattle.std.proofs.lemmas.Nat.{div-add-mod', div-mul-add, mod-mul-add}
-use Rattle.std.proofs.lemmas.List.{ext_get_or, get_or_append_left, get_or-append_right, length-set, length-append, set-append_left, set-append_right}
+use Rattle.std.proofs.lemmas.Bool.{cases_lt}
+use Rattle.std.proofs.lemmas.List.{get_or_append_left, get_or-append_right, get_or_past, length-append, set-append_left}
 use Rattle.std.proofs.lemmas.List.FromFn.{get_or-map-range_with_len, length-map-range_with_len}
+use Rattle.numeric.specs.declared.ty.Ty.{Ty}
+use Rattle.numeric.specs.declared.ty.Ty.TheVariants.{U8}
+use Rattle.numeric.specs.Wrap.{IsOf}
 use Rattle.board.specs.Kept.{all_bits, by_cell, in_planes, planes_of, sample_place, AreSamples, Keeps}
-use Rattle.board.specs.Layout.{Layout, samples_in, shown_cell, value_at, IsSound, ShowsSamples}
+use Rattle.board.specs.Layout.{Layout, samples_in, shown_cell, value_at, ShowsSamples}
 use Rattle.board.specs.Shown.{StandInPlanes}
 use Rattle.board.specs.Words.{bits_of}
 use Rattle.board.specs.declared.kept.Kept.{Kept}
 use Rattle.board.specs.declared.kept.Kept.TheVariants.{AsBits, AsSamples}
 use Rattle.board.specs.declared.source.Planes.{Planes}
 use Rattle.board.proofs.Colours.{by_colours, place_below, same_colour, same_pixel}
-use Rattle.board.proofs.Samples.{sample_bits}
+use Rattle.board.proofs.Samples.{byte_bits}
 
 positive : (n m d : ℕ) → d < n * m → 0 < n
 positive zero m d h = absurd (omega arith)
@@ -44,15 +46,6 @@ place_told x pixel colour lt = λ i. mod-mul-add colour x.pixels pixel lt i * x.
 pub row_inside : (x : Planes) (d pixel colour : ℕ) → d < in_planes x → d ≡ colour * x.pixels + pixel → pixel < x.pixels → pixel * x.colours + colour < in_planes x
 row_inside x d pixel colour lt is in_plane = subst (λ n. n < in_planes x) (ap (sample_place x) is ∙ place_told x pixel colour in_plane) (place_inside x d lt)
 
--- where there is one colour the samples stand in the order of their cells
-pub grey_place : (x : Planes) (d : ℕ) → x.colours ≡ 1 → d < in_planes x → sample_place x d ≡ d
-grey_place x d one lt =
-    let count : x.pixels * x.colours ≡ x.pixels * 1 = (λ i. x.pixels * one i) in
-    let in_plane : d < x.pixels = omega (arith, lt, count) in
-    let last : d * 1 + 0 ≡ d = omega arith in
-    let same : d ≡ 0 * x.pixels + d = omega arith in
-    ap (sample_place x) same ∙ place_told x d 0 in_plane ∙ (λ i. d * one i + 0) ∙ last
-
 -- at one place one cell's sample stands
 pub one_cell : (x : Planes) (d e : ℕ) → d < in_planes x → e < in_planes x → sample_place x d ≡ sample_place x e → d ≡ e
 one_cell x d e d_lt e_lt is =
@@ -69,23 +62,6 @@ module _ (x : Planes) where
   get_by_cell : (samples : List ℕ) (d : ℕ) → d < in_planes x → get_or (by_cell x samples) d 0 ≡ get_or samples (sample_place x d) 0
   get_by_cell samples d lt = get_or-map-range_with_len (λ e. slice_index samples (sample_place x e)) 0 (in_planes x) d d 0 lt (omega arith)
 
-  -- the sample of a cell set is the cell set
-  set_by_cell : (samples : List ℕ) (d v : ℕ) → d < in_planes x → in_planes x ≤ length samples → by_cell x (set samples (sample_place x d) v) ≡ set (by_cell x samples) d v
-  set_by_cell samples d v lt fits =
-      let place : ℕ = sample_place x d in
-      let after : List ℕ = set samples place v in
-      let below = place_inside x d lt in
-      let long = length_by_cell after in
-      let before = length_by_cell samples in
-      ext_get_or 0 (by_cell x after) (set (by_cell x samples) d v) (long ∙ sym before ∙ sym (length-set (by_cell x samples) d v)) (λ e e_in.
-      let e_lt : e < in_planes x = omega (arith, e_in, long) in
-      get_by_cell after e e_lt ∙ dite (ℕ_discrete e d)
-      (λ same. subst (λ (n : ℕ). get_or after (sample_place x n) 0 ≡ get_or (set (by_cell x samples) d v) n 0) (sym same)
-      (get_or-set_same samples place v 0 (omega (arith, below, fits)) ∙ sym (get_or-set_same (by_cell x samples) d v 0 (omega (arith, lt, before)))))
-      (λ other.
-      get_or-set_other samples place (sample_place x e) v 0 (λ is. other (one_cell x e d e_lt lt is))
-      ∙ sym (get_by_cell samples e e_lt) ∙ sym (get_or-set_other (by_cell x samples) d e v 0 other)))
-
   module _ (bits samples : List ℕ) where
     pub length_all : length (all_bits x bits samples) ≡ length bits + in_planes x
     length_all = length-append bits (by_cell x samples) ∙ ap (λ n. length bits + n) (length_by_cell samples)
@@ -99,16 +75,24 @@ module _ (x : Planes) where
     pub set_bit : (c v : ℕ) → c < length bits → all_bits x (set bits c v) samples ≡ set (all_bits x bits samples) c v
     set_bit c v lt = sym (set-append_left bits (by_cell x samples) c v lt)
 
-    pub set_sample : (c v : ℕ) → length bits ≤ c → c < length bits + in_planes x → in_planes x ≤ length samples
-        → all_bits x bits (set samples (sample_place x (c - length bits)) v) ≡ set (all_bits x bits samples) c v
-    set_sample c v from to fits =
-        ap (λ (later : List ℕ). bits ++ later) (set_by_cell samples (c - length bits) v (omega arith) fits)
-        ∙ sym (set-append_right bits (by_cell x samples) (length bits) c v refl from)
+  -- the bits of a cell are the same beside other samples where its own is the same
+  pub same_beside : (bits old new : List ℕ) (c : ℕ) → (length bits ≤ c → c < length bits + in_planes x →
+      get_or new (sample_place x (c - length bits)) 0 ≡ get_or old (sample_place x (c - length bits)) 0) → get_or (all_bits x bits new) c 0 ≡ get_or (all_bits x bits old) c 0
+  same_beside bits old new c same = elim (cases_lt c (length bits)) [
+    | inl before ↦ get_bits bits new c before ∙ sym (get_bits bits old c before)
+    | inr past ↦ elim (cases_lt c (length bits + in_planes x)) [
+      | inl inside ↦ get_sample bits new c past inside ∙ same past inside ∙ sym (get_sample bits old c past inside)
+      | inr beyond ↦
+          let long = length_all bits new in
+          let before = length_all bits old in
+          get_or_past (all_bits x bits new) c 0 (omega (arith, beyond, long)) ∙ sym (get_or_past (all_bits x bits old) c 0 (omega (arith, beyond, before)))
+    ]
+  ]
 
 module _ (plan : Layout) (values : List ℤ) (x : Planes) (stand : StandInPlanes plan x) where
   -- the values of the cells in planes are samples
-  pub samples_small : IsSound plan → ShowsSamples plan values → AreSamples values x.first (x.first + in_planes x)
-  samples_small sound right c from to =
+  pub samples_small : plan.frame.ty ≡ U8 → ShowsSamples plan values → AreSamples values x.first (x.first + in_planes x)
+  samples_small byte right c from to =
       let d : ℕ = c - x.first in
       let lt : d < in_planes x = omega (arith, from, to) in
       let at = stands x d lt in
@@ -119,10 +103,8 @@ module _ (plan : Layout) (values : List ℤ) (x : Planes) (stand : StandInPlanes
       let parts = div-add-mod' d x.pixels in
       let here = stand.cell (d % x.pixels) (d / x.pixels) at.pixel at.colour in
       let is : shown_cell plan n ≡ c = omega (arith, here, parts, from) in
-      let bits = sample_bits plan.frame.ty (value_at values (shown_cell plan n)) sound.shape.ty (right n n_lt) in
-      let one = bits.0 in
-      let most = bits.1 in
-      subst (λ (k : ℕ). bits_of (value_at values k) < 2 ^ 16) is (omega (arith, one, most))
+      let value : ℤ = value_at values (shown_cell plan n) in
+      subst (λ (k : ℕ). bits_of (value_at values k) < 2 ^ 8) is (byte_bits value (subst (λ (t : Ty). IsOf t value) byte (right n n_lt)))
 
   -- a sample is the bits of the cell that it shows
   pub sample_shows : (bits samples : List ℕ) → length bits ≡ x.first → (n : ℕ) → n < samples_in plan → get_or samples n 0 ≡ get_or (all_bits x bits samples) (shown_cell plan n) 0
@@ -144,16 +126,11 @@ module _ (plan : Layout) (values : List ℤ) (x : Planes) (stand : StandInPlanes
 module _ (plan : Layout) where
   -- what is kept are all cells
   pub all_kept : (k : Kept) (n : ℕ) → Keeps plan k n → n + in_planes (planes_of k) ≡ plan.cells
-  all_kept (AsSamples x) n held = let count = held.0.all in let first = held.1 in let rest = held.2 in omega (arith, count, first, rest)
-  all_kept (AsBits v) n held = let all = held.1 in omega (arith, all)
-
-  -- each cell in planes has a sample
-  pub all_fit : (k : Kept) (n : ℕ) → Keeps plan k n → in_planes (planes_of k) ≤ samples_in plan
-  all_fit (AsSamples x) n held = let count = held.0.all in omega (arith, count)
-  all_fit (AsBits v) n held = omega arith
+  all_kept (AsSamples x) n held = let count = held.0.stand.all in let first = held.1 in let rest = held.0.last in omega (arith, count, first, rest)
+  all_kept (AsBits v words) n held = let all = held.1 in omega (arith, all)
 
   -- the values of the cells in planes are samples
-  pub all_small : (values : List ℤ) (k : Kept) (n : ℕ) → Keeps plan k n → IsSound plan → ShowsSamples plan values → AreSamples values n (n + in_planes (planes_of k))
-  all_small values (AsSamples x) n held sound right =
-      subst (λ (m : ℕ). AreSamples values m (m + in_planes x)) (sym held.1) (samples_small plan values x held.0 sound right)
-  all_small values (AsBits v) n held sound right = λ c from to. absurd (omega (arith, from, to))
+  pub all_small : (values : List ℤ) (k : Kept) (n : ℕ) → Keeps plan k n → ShowsSamples plan values → AreSamples values n (n + in_planes (planes_of k))
+  all_small values (AsSamples x) n held right =
+      subst (λ (m : ℕ). AreSamples values m (m + in_planes x)) (sym held.1) (samples_small plan values x held.0.stand held.0.byte right)
+  all_small values (AsBits v words) n held right = λ c from to. absurd (omega (arith, from, to))

@@ -9,3 +9,4 @@ pub mod Colours
 pub mod Sheets
 pub mod ByCell
 pub mod InParts
+pub mod ColourRows

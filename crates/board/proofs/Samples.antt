@@ -22,16 +22,20 @@ bits_below value =
     omega arith
 
 -- a number that is not too large keeps its bits
-small_bits : (z : ℤ) (m : ℕ) → m ≤ 65535 → pos 0 ≤ℤ z → z ≤ℤ pos m → (bits_of z ≡ natural z) × (natural z ≤ 65535)
+small_bits : (z : ℤ) (m : ℕ) → m ≤ 65535 → pos 0 ≤ℤ z → z ≤ℤ pos m → (bits_of z ≡ natural z) × (natural z ≤ m)
 small_bits z m few from to =
     let most : natural z ≤ m = natural_most z m to in
-    (ap natural (wrap_of_value U32 z (record { from = from; to = omega (arith, ints) })), omega arith)
+    (ap natural (wrap_of_value U32 z (record { from = from; to = omega (arith, ints) })), most)
 
 -- the bits of a sample are the sample, and below 2^16
 pub sample_bits : (t : Ty) (z : ℤ) → IsSampleType t → IsOf t z → (bits_of z ≡ natural z) × (natural z ≤ 65535)
-sample_bits U8 z _ h = small_bits z 255 (omega arith) h.from h.to
+sample_bits U8 z _ h = let small = small_bits z 255 (omega arith) h.from h.to in let most = small.1 in (small.0, omega (arith, most))
 sample_bits U16 z _ h = small_bits z 65535 (omega arith) h.from h.to
 sample_bits U32 z none h = absurd none
 sample_bits I8 z none h = absurd none
 sample_bits I16 z none h = absurd none
 sample_bits I32 z none h = absurd none
+
+-- those of a sample of a byte are below 2^8
+pub byte_bits : (z : ℤ) → IsOf U8 z → bits_of z < 2 ^ 8
+byte_bits z h = let small = small_bits z 255 (omega arith) h.from h.to in let same = small.0 in let most = small.1 in omega (arith, same, most)

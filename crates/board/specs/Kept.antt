@@ -1,6 +1,7 @@
 -- How a sheet keeps its cells: as bits, or as the samples of the picture that shows them, where these are the last cells.
-use Rattle.std.specs.Prelude.{◌≡◌, ℕ, ◌+◌, ◌-◌, ◌*◌, ◌/◌, ◌%◌, ◌^◌, ◌<◌, ◌≤◌, ℤ, List, ◌++◌, map, slice_index}
+use Rattle.std.specs.Prelude.{◌≡◌, ◌≢◌, ℕ, ◌+◌, ◌-◌, ◌*◌, ◌/◌, ◌%◌, ◌^◌, ◌<◌, ◌≤◌, ℤ, List, ◌++◌, length, map, slice_index}
 use Rattle.std.specs.List.{range_with_len}
+use Rattle.numeric.specs.declared.ty.Ty.TheVariants.{U8}
 use Rattle.board.specs.Layout.{Layout, samples_in, value_at}
 use Rattle.board.specs.Shown.{StandInPlanes, Tells}
 use Rattle.board.specs.Words.{bits_of}
@@ -31,16 +32,27 @@ no_planes = record { first = 0; colours = 1; pixels = 0 }
 -- the planes of the cells that are kept as samples
 abbrev pub planes_of : Kept → Planes
 planes_of (AsSamples x) = x
-planes_of (AsBits v) = no_planes
+planes_of (AsBits v words) = no_planes
+
+-- each sample of the picture is a byte, and their cells are the last, and stand in these planes
+pub record AreBytes (plan : Layout) (x : Planes) : Type 0 where
+  pub byte : plan.frame.ty ≡ U8
+  pub stand : StandInPlanes plan x
+  pub last : x.first + samples_in plan ≡ plan.cells
 
 -- so many cells are kept as bits, and what is kept says which cell each sample of the picture shows
 abbrev pub Keeps : Layout → Kept → ℕ → Type 0
-Keeps plan (AsSamples x) n = StandInPlanes plan x × (n ≡ x.first) × (x.first + samples_in plan ≡ plan.cells)
-Keeps plan (AsBits v) n = Tells plan v × (n ≡ plan.cells)
+Keeps plan (AsSamples x) n = AreBytes plan x × (n ≡ x.first)
+Keeps plan (AsBits v words) n = Tells plan v × (n ≡ plan.cells) × (length words.items ≡ samples_in plan)
 
--- the values of the cells from this one on, below another, are samples
+-- the values of the cells from this one on, below another, are samples of a byte
 abbrev pub AreSamples : List ℤ → ℕ → ℕ → Type 0
-AreSamples values from to = (c : ℕ) → from ≤ c → c < to → bits_of (value_at values c) < 2 ^ 16
+AreSamples values from to = (c : ℕ) → from ≤ c → c < to → bits_of (value_at values c) < 2 ^ 8
+
+-- so many numbers, from one on, stand in a list from a place on, each so many behind the one before, and all else is as before
+pub record AreWritten (numbers : List ℕ) (from count place step : ℕ) (old new : List ℕ) : Type 0 where
+  pub there : (k : ℕ) → k < count → slice_index new (place + k * step) ≡ slice_index numbers (from + k)
+  pub others : (i : ℕ) → ((k : ℕ) → k < count → i ≢ place + k * step) → slice_index new i ≡ slice_index old i
 
 -- the cells of a part of a list follow each other
 abbrev pub FollowEachOther : List ℕ → ℕ → ℕ → Type 0

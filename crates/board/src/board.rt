@@ -14,7 +14,7 @@ use crate::shown::{Shown, show, word_at};
 use crate::source::Source;
 use crate::view::View;
 use atomic_table::{Closed, Seat, Table};
-use meaning::image::{Image, Shape};
+use meaning::image::{Image, Samples, Shape};
 use std::alloc::{AllocError, Global};
 use std::marker::Model;
 
@@ -255,7 +255,7 @@ impl<'a, J: Run> Board<'a, J> {
         Ok(Image {
             ty,
             extents,
-            samples,
+            samples: Samples::Words(samples),
         })
     }
 }

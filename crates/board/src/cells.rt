@@ -10,7 +10,7 @@ ghost use Rattle.board.specs.Words.{bits_of};
 
 use crate::kept::{bits_of_cell, sample_place};
 use crate::law::Run;
-use crate::putting::{KeptBits, PART, follow_each_other};
+use crate::putting::{PART, follow_each_other};
 use crate::rows::Rows;
 use crate::showing::show_in;
 use crate::source::Planes;
@@ -22,7 +22,7 @@ use std::marker::{Model, PhantomData};
 #[derive(Drop)]
 pub struct SheetCells<'s, 'a, J: Run> {
     pub(crate) bits: &'s [u32],
-    pub(crate) samples: &'s [u16],
+    pub(crate) samples: &'s [u8],
     pub(crate) planes: Planes,
     pub(crate) own: &'s Rows<'a>,
     pub(crate) run: PhantomData<J>,
@@ -92,7 +92,7 @@ impl<'s, 'a, J: Run> SheetCells<'s, 'a, J> {
 
     /// Writes the values of all own cells of a piece, whose bits these are, into a part of the picture's samples, which begins at this place of all, where it
     /// has the samples of all of them. Else it says no, and may have written some of them. What cells of the part had they have still.
-    pub fn show(&self, piece: u32, bits: &[u32], part: &mut [u16], from: usize) -> bool
+    pub fn show(&self, piece: u32, bits: &[u32], part: &mut [u8], from: usize) -> bool
         requires piece { piece < pieces_of J.layout }
         requires bits { bits.now ≡ bits_at J.values (own_of J.layout piece) }
         requires short { from + length part.old < 2 ^ 32 }
@@ -100,14 +100,7 @@ impl<'s, 'a, J: Run> SheetCells<'s, 'a, J> {
         ensures more { StaysShown self.now.planes (length self.now.bits) J.values from part.old part.new }
     {
         let cells = self.own.get(piece as usize);
-        show_in::<J, KeptBits<'_>>(
-            self.planes,
-            self.bits.len(),
-            cells,
-            &KeptBits(bits),
-            part,
-            from,
-        )
+        show_in::<J>(self.planes, self.bits.len(), cells, bits, part, from)
     }
 
     /// Whether no piece before this one owns a cell that is kept as a sample.

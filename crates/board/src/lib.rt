@@ -6,6 +6,7 @@
 #![tactic(auto)]
 
 mod board;
+mod bytes;
 mod cells;
 mod kept;
 mod law;

@@ -7,6 +7,7 @@ ghost use Rattle.std.specs.Bool.{OnTrue};
 ghost use Rattle.board.specs.Kept.{all_bits, in_planes, AreSamples, FollowEachOther};
 ghost use Rattle.board.specs.Sheets.{bits_at, AreOfRow, HasBits, HasRow};
 
+use crate::bytes::write_each;
 use crate::kept::pixel_of;
 use crate::law::Run;
 use crate::source::Planes;
@@ -14,31 +15,6 @@ use orders::CellRuns;
 
 /// How many cells at most are looked at together.
 pub(crate) const PART: usize = 1024;
-
-/// What is put: the bits of values, one after another.
-pub(crate) trait Values {
-    ghost use Rattle.std.specs.Prelude.{List};
-
-    ghost bits: { Self → List ℕ };
-
-    /// The bits of the value at a place.
-    fn at(&self, place: usize) -> u32
-        requires { place < length (bits self.now) }
-        ensures { result ≡ slice_index (bits self.now) place };
-}
-
-/// Bits, one after another.
-#[derive(Clone, Copy, Drop)]
-pub(crate) struct KeptBits<'a>(pub(crate) &'a [u32]);
-
-impl Values for KeptBits<'_> {
-    ghost bits = { λ values. values.0.now };
-
-    #[inline(always)]
-    fn at(&self, place: usize) -> u32 {
-        self.0[place]
-    }
-}
 
 /// Whether the cells of a part of a list follow each other. It says so of no part beyond the last 1024 numbers of its type.
 pub(crate) fn follow_each_other(cells: &[u32], from: usize, to: usize) -> bool
@@ -60,96 +36,69 @@ pub(crate) fn follow_each_other(cells: &[u32], from: usize, to: usize) -> bool
 }
 
 // Puts a row of cells that are kept as bits.
-fn put_as_bits<J: Run, V: Values>(
+fn put_as_bits<J: Run>(
     bits_now: &mut [u32],
-    samples: &mut [u16],
+    samples: &[u8],
     planes: Planes,
     first: usize,
-    values: &V,
+    values: &[u32],
     from: usize,
     count: usize,
 )
-    requires values { from + count ≤ length (V.bits values.now) }
+    requires values { from + count ≤ length values.now }
     requires few { from + count < 2 ^ 32 }
-    requires row { AreOfRow J.values (V.bits values.now) from first count }
+    requires row { AreOfRow J.values values.now from first count }
     requires inside { first + count ≤ length bits_now.old }
-    ensures put { HasRow J.values (all_bits planes bits_now.new samples.new) first count }
-    ensures more { (c : ℕ) → HasBits J.values (all_bits planes bits_now.old samples.old) c → HasBits J.values (all_bits planes bits_now.new samples.new) c }
+    ensures put { HasRow J.values (all_bits planes bits_now.new samples.now) first count }
+    ensures more { (c : ℕ) → HasBits J.values (all_bits planes bits_now.old samples.now) c → HasBits J.values (all_bits planes bits_now.new samples.now) c }
 {
     for more in 0..count {
-        bits_now[first + more] = values.at(from + more);
-    }
-}
-
-// Puts a row of cells that are kept as samples of a grey picture, the first of them at this place.
-fn put_as_grey<J: Run, V: Values>(
-    bits_now: &mut [u32],
-    samples: &mut [u16],
-    planes: Planes,
-    first: usize,
-    values: &V,
-    from: usize,
-    count: usize,
-    place: usize,
-)
-    requires values { from + count ≤ length (V.bits values.now) }
-    requires few { from + count < 2 ^ 32 }
-    requires row { AreOfRow J.values (V.bits values.now) from first count }
-    requires inside { first + count ≤ length bits_now.old + in_planes planes }
-    requires fits { in_planes planes ≤ length samples.old }
-    requires samples { AreSamples J.values (length bits_now.old) (length bits_now.old + in_planes planes) }
-    requires place { first ≡ length bits_now.old + place }
-    requires grey { planes.colours ≡ 1 }
-    ensures put { HasRow J.values (all_bits planes bits_now.new samples.new) first count }
-    ensures more { (c : ℕ) → HasBits J.values (all_bits planes bits_now.old samples.old) c → HasBits J.values (all_bits planes bits_now.new samples.new) c }
-{
-    for more in 0..count {
-        samples[place + more] = values.at(from + more) as u16;
+        bits_now[first + more] = values[from + more];
     }
 }
 
 // Puts a row of cells that are kept as samples of one colour. The first has this pixel and this colour.
-fn put_as_samples<J: Run, V: Values>(
-    bits_now: &mut [u32],
-    samples: &mut [u16],
+fn put_as_samples<J: Run>(
+    bits_now: &[u32],
+    samples: &mut [u8],
     planes: Planes,
     first: usize,
-    values: &V,
+    values: &[u32],
     from: usize,
     count: usize,
     pixel: usize,
     colour: usize,
 )
-    requires values { from + count ≤ length (V.bits values.now) }
+    requires values { from + count ≤ length values.now }
     requires few { from + count < 2 ^ 32 }
-    requires row { AreOfRow J.values (V.bits values.now) from first count }
-    requires inside { first + count ≤ length bits_now.old + in_planes planes }
+    requires row { AreOfRow J.values values.now from first count }
+    requires inside { first + count ≤ length bits_now.now + in_planes planes }
     requires fits { in_planes planes ≤ length samples.old }
-    requires samples { AreSamples J.values (length bits_now.old) (length bits_now.old + in_planes planes) }
-    requires place { first ≡ length bits_now.old + (colour * planes.pixels + pixel) }
+    requires samples { AreSamples J.values (length bits_now.now) (length bits_now.now + in_planes planes) }
+    requires some { 0 < count }
+    requires place { first ≡ length bits_now.now + (colour * planes.pixels + pixel) }
     requires one { pixel + count ≤ planes.pixels }
-    ensures put { HasRow J.values (all_bits planes bits_now.new samples.new) first count }
-    ensures more { (c : ℕ) → HasBits J.values (all_bits planes bits_now.old samples.old) c → HasBits J.values (all_bits planes bits_now.new samples.new) c }
+    ensures put { HasRow J.values (all_bits planes bits_now.now samples.new) first count }
+    ensures more { (c : ℕ) → HasBits J.values (all_bits planes bits_now.now samples.old) c → HasBits J.values (all_bits planes bits_now.now samples.new) c }
 {
-    for more in 0..count {
-        samples[(pixel + more) * planes.colours + colour] = values.at(from + more) as u16;
-    }
+    let place = pixel * planes.colours + colour;
+    write_each(samples, place, planes.colours, values, from, count);
 }
 
 // Puts as many of a row of cells, from the first on, as are kept alike: as bits, or as samples of one colour. Answers how many.
-fn put_alike<J: Run, V: Values>(
+fn put_alike<J: Run>(
     bits_now: &mut [u32],
-    samples: &mut [u16],
+    samples: &mut [u8],
     planes: Planes,
     first: usize,
-    values: &V,
+    values: &[u32],
     from: usize,
     count: usize,
 ) -> usize
     requires some { 0 < count }
-    requires values { from + count ≤ length (V.bits values.now) }
+    requires values { from + count ≤ length values.now }
     requires few { from + count < 2 ^ 32 }
-    requires row { AreOfRow J.values (V.bits values.now) from first count }
+    requires row { AreOfRow J.values values.now from first count }
     requires inside { first + count ≤ length bits_now.old + in_planes planes }
     requires fits { in_planes planes ≤ length samples.old }
     requires samples { AreSamples J.values (length bits_now.old) (length bits_now.old + in_planes planes) }
@@ -159,35 +108,30 @@ fn put_alike<J: Run, V: Values>(
 {
     if first < bits_now.len() {
         let alike = count.min(bits_now.len() - first);
-        put_as_bits::<J, V>(bits_now, samples, planes, first, values, from, alike);
+        put_as_bits::<J>(bits_now, samples, planes, first, values, from, alike);
         return alike;
     }
-    let place = first - bits_now.len();
-    let (pixel, colour) = pixel_of(planes, place);
+    let (pixel, colour) = pixel_of(planes, first - bits_now.len());
     let alike = count.min(planes.pixels - pixel);
-    if planes.colours == 1 {
-        put_as_grey::<J, V>(bits_now, samples, planes, first, values, from, alike, place);
-    } else {
-        put_as_samples::<J, V>(
-            bits_now, samples, planes, first, values, from, alike, pixel, colour,
-        );
-    }
+    put_as_samples::<J>(
+        bits_now, samples, planes, first, values, from, alike, pixel, colour,
+    );
     alike
 }
 
 // Puts a row of cells.
-fn put_row<J: Run, V: Values>(
+fn put_row<J: Run>(
     bits_now: &mut [u32],
-    samples: &mut [u16],
+    samples: &mut [u8],
     planes: Planes,
     first: usize,
-    values: &V,
+    values: &[u32],
     from: usize,
     count: usize,
 )
-    requires values { from + count ≤ length (V.bits values.now) }
+    requires values { from + count ≤ length values.now }
     requires few { from + count < 2 ^ 32 }
-    requires row { AreOfRow J.values (V.bits values.now) from first count }
+    requires row { AreOfRow J.values values.now from first count }
     requires inside { 0 < count → first + count ≤ length bits_now.old + in_planes planes }
     requires fits { in_planes planes ≤ length samples.old }
     requires samples { AreSamples J.values (length bits_now.old) (length bits_now.old + in_planes planes) }
@@ -196,7 +140,7 @@ fn put_row<J: Run, V: Values>(
 {
     let mut done = 0;
     while done < count {
-        done += put_alike::<J, V>(
+        done += put_alike::<J>(
             bits_now,
             samples,
             planes,
@@ -209,14 +153,14 @@ fn put_row<J: Run, V: Values>(
 }
 
 /// Sets cells to the bits of their values. A cell that had them has them still.
-pub(crate) fn put_bits<J: Run, V: Values>(
+pub(crate) fn put_bits<J: Run>(
     bits_now: &mut [u32],
-    samples: &mut [u16],
+    samples: &mut [u8],
     planes: Planes,
     cells: &CellRuns,
-    values: &V,
+    values: &[u32],
 )
-    requires values { V.bits values.now ≡ bits_at J.values cells.now }
+    requires values { values.now ≡ bits_at J.values cells.now }
     requires inside { (k : ℕ) → k < length cells.now → slice_index cells.now k < length bits_now.old + in_planes planes }
     requires fits { in_planes planes ≤ length samples.old }
     requires samples { AreSamples J.values (length bits_now.old) (length bits_now.old + in_planes planes) }
@@ -229,7 +173,7 @@ pub(crate) fn put_bits<J: Run, V: Values>(
     for run in cells.runs() {
         let first = run.first as usize;
         let count = run.count as usize;
-        put_row::<J, V>(bits_now, samples, planes, first, values, from, count);
+        put_row::<J>(bits_now, samples, planes, first, values, from, count);
         from += count;
     }
 }

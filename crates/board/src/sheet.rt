@@ -1,49 +1,50 @@
 //! The cells of a run by one worker alone.
 
 ghost use Rattle.std.specs.Prelude.{◌≡◌, ℕ, ◌+◌, ◌^◌, ◌<◌, ◌≤◌, ◌++◌, [], length, vec_capacity};
-ghost use Rattle.board.specs.Kept.{all_bits, planes_of, Keeps};
-ghost use Rattle.board.specs.Layout.{picture_of, pieces_of, samples_in, IsSound, ShowsSamples};
+ghost use Rattle.meaning.specs.Image.View.{numbers};
+ghost use Rattle.board.specs.Kept.{all_bits, in_planes, planes_of, Keeps};
+ghost use Rattle.board.specs.Layout.{picture_of, pieces_of, IsSound, ShowsSamples};
 ghost use Rattle.board.specs.Seen.{beside, seen_bits, Seen};
 ghost use Rattle.board.specs.Sheets.{IsPut};
 
 use crate::cells::SheetCells;
 use crate::kept::{Kept, kept_as};
 use crate::law::Run;
-use crate::putting::{KeptBits, put_bits};
+use crate::putting::put_bits;
 use crate::read_off::read_off;
 use crate::rows::Rows;
 use crate::shown::Shown;
 use crate::source::Source;
-use meaning::image::{Image, Shape};
+use meaning::image::{Image, Samples, Shape};
 use std::alloc::{AllocError, Global};
 use std::marker::{Model, PhantomData};
 use std::mem::replace;
 
 /// The cells of accepted work, which one worker alone sets and reads. Contracts see it as the bits of all cells.
 ///
-/// The cells that the picture shows are kept as its samples, where they are the last and stand in planes, and else as bits, as the
-/// other cells are.
+/// The cells that the picture shows are kept as its samples, in a byte each, where the picture's type is `u8` and they are the last
+/// and stand in planes, and else as bits, as the other cells are.
 #[derive(Drop)]
 pub struct Sheet<'a, J: Run> {
     bits: Vec<u32>,
     own: Rows<'a>,
     kept: Kept,
     shape: Shape,
-    samples: Vec<u16>,
+    samples: Vec<u8>,
     run: PhantomData<J>,
 }
 
 impl<'a, J: Run> Model for Sheet<'a, J> {
     ghost use Rattle.std.specs.Prelude.{◌≡◌, ℕ, List, length};
     ghost use Rattle.meaning.specs.Image.View.{shape_of};
-    ghost use Rattle.board.specs.Kept.{all_bits, planes_of, Keeps};
-    ghost use Rattle.board.specs.Layout.{samples_in, IsSound, ShowsSamples};
+    ghost use Rattle.board.specs.Kept.{all_bits, in_planes, planes_of, Keeps};
+    ghost use Rattle.board.specs.Layout.{IsSound, ShowsSamples};
 
     ghost Value = { List ℕ };
 
     ghost view = { λ s. all_bits (planes_of s.kept) s.bits.items s.samples.items };
 
-    ghost invariant = { λ s. (s.own ≡ J.layout.own) × IsSound J.layout × Keeps J.layout s.kept (length s.bits.items) × (length s.samples.items ≡ samples_in J.layout) × (shape_of s.shape ≡ J.layout.frame) × ShowsSamples J.layout J.values };
+    ghost invariant = { λ s. (s.own ≡ J.layout.own) × IsSound J.layout × Keeps J.layout s.kept (length s.bits.items) × (length s.samples.items ≡ in_planes (planes_of s.kept)) × (shape_of s.shape ≡ J.layout.frame) × ShowsSamples J.layout J.values };
 }
 
 impl<'a, J: Run> Sheet<'a, J> {
@@ -53,8 +54,9 @@ impl<'a, J: Run> Sheet<'a, J> {
 
     /// A sheet on which nothing is put.
     ///
-    /// It takes 2 bytes for each sample of the picture, 8 for each piece, which are where its own cells stand, and 4 for each cell
-    /// that is not kept as a sample. Where the cells of the samples don't stand in planes it keeps these too, 4 bytes each.
+    /// It takes 8 bytes for each piece, which are where its own cells stand, one for each cell that is kept as a sample, and 4 for
+    /// each other cell. Where no cell is kept as a sample it takes 2 for each sample of the picture, and where their cells don't
+    /// stand in planes it keeps these too, 4 bytes each.
     pub fn open<S: Source<'a>>(alloc: Global, source: &S) -> Result<Sheet<'a, J>, AllocError>
         requires layout { S.layout source.now ≡ J.layout }
         requires values { ShowsSamples J.layout J.values }
@@ -65,9 +67,10 @@ impl<'a, J: Run> Sheet<'a, J> {
         let shown = Shown::of(alloc, source)?;
         let shape = source.shape().copy(alloc)?;
         let count = shape.sample_count();
-        let (kept, before) = kept_as::<J>(shown, count, source.cells());
+        let cells = source.cells();
+        let (kept, before) = kept_as::<J>(alloc, shown, shape.ty, count, cells)?;
         let bits = vec![in alloc; 0u32; before]?;
-        let samples = vec![in alloc; 0u16; count]?;
+        let samples = vec![in alloc; 0u8; cells - before]?;
         Ok(Sheet {
             bits,
             own,
@@ -107,10 +110,10 @@ impl<'a, J: Run> Sheet<'a, J> {
         }
     }
 
-    /// The sheet without the samples of the picture, and these.
-    pub fn apart(self) -> (ApartSheet<'a, J>, Vec<u16>)
+    /// The sheet without the cells that are kept as samples of the picture, and these samples. There are none where no cell is kept so.
+    pub fn apart(self) -> (ApartSheet<'a, J>, Vec<u8>)
         ensures same { seen_bits (beside result.0 result.1.items) ≡ self.entry }
-        ensures all { length result.1.items ≡ samples_in J.layout }
+        ensures all { length result.1.items ≡ in_planes result.0.planes }
     {
         let Sheet {
             bits,
@@ -140,13 +143,7 @@ impl<'a, J: Run> Sheet<'a, J> {
         let planes = self.kept.planes();
         let own = self.own.get(piece as usize);
         let bits = self.bits.as_mut_slice();
-        put_bits::<J, KeptBits<'_>>(
-            bits,
-            self.samples.as_mut_slice(),
-            planes,
-            own,
-            &KeptBits(kept),
-        );
+        put_bits::<J>(bits, self.samples.as_mut_slice(), planes, own, kept);
     }
 
     /// The picture, once all pieces are put.
@@ -159,10 +156,10 @@ impl<'a, J: Run> Sheet<'a, J> {
             own: _,
             kept,
             shape,
-            mut samples,
+            samples,
             run: _,
         } = self;
-        show::<J>(bits.as_slice(), &kept, samples.as_mut_slice());
+        let samples = shown_samples::<J>(bits.as_slice(), kept, samples);
         let Shape { ty, extents } = shape;
         Image {
             ty,
@@ -172,7 +169,7 @@ impl<'a, J: Run> Sheet<'a, J> {
     }
 }
 
-/// A sheet without the samples of the picture. Contracts see it as its cells, beside no samples.
+/// A sheet without the cells that are kept as samples. Contracts see it as its cells, beside no samples.
 #[derive(Drop)]
 pub struct ApartSheet<'a, J: Run> {
     bits: Vec<u32>,
@@ -198,7 +195,7 @@ impl<'a, J: Run> Model for ApartSheet<'a, J> {
 
 impl<'a, J: Run> ApartSheet<'a, J> {
     /// Its cells beside these samples, as those who look at them share them.
-    pub fn cells<'s>(&'s self, samples: &'s [u16]) -> SheetCells<'s, 'a, J>
+    pub fn cells<'s>(&'s self, samples: &'s [u8]) -> SheetCells<'s, 'a, J>
         ensures { result ≡ beside self.now samples.now }
     {
         SheetCells {
@@ -211,8 +208,8 @@ impl<'a, J: Run> ApartSheet<'a, J> {
     }
 
     /// The sheet with these samples of the picture.
-    pub fn joined(self, samples: Vec<u16>) -> Sheet<'a, J>
-        requires { length samples.items ≡ samples_in J.layout }
+    pub fn joined(self, samples: Vec<u8>) -> Sheet<'a, J>
+        requires { length samples.items ≡ in_planes self.planes }
         ensures { result ≡ seen_bits (beside self.entry samples.items) }
     {
         let ApartSheet {
@@ -233,17 +230,20 @@ impl<'a, J: Run> ApartSheet<'a, J> {
     }
 }
 
-// Makes the samples those of the picture, once all cells have the bits of their values.
-fn show<J: Run>(bits: &[u32], kept: &Kept, samples: &mut [u16])
+// The samples of the picture, once all cells have the bits of their values.
+fn shown_samples<J: Run>(bits: &[u32], kept: Kept, bytes: Vec<u8>) -> Samples
     requires layout { IsSound J.layout × ShowsSamples J.layout J.values }
-    requires kept { Keeps J.layout kept.now (length bits.now) }
-    requires fits { length samples.old ≡ samples_in J.layout }
-    requires put { (j : ℕ) → j < pieces_of J.layout → IsPut J.layout J.values (all_bits (planes_of kept.now) bits.now samples.old) j }
-    ensures { samples.new ≡ (picture_of J.layout J.values).samples }
+    requires kept { Keeps J.layout kept (length bits.now) }
+    requires fits { length bytes.items ≡ in_planes (planes_of kept) }
+    requires put { (j : ℕ) → j < pieces_of J.layout → IsPut J.layout J.values (all_bits (planes_of kept) bits.now bytes.items) j }
+    ensures { numbers result ≡ (picture_of J.layout J.values).samples }
 {
     match kept {
-        Kept::AsSamples(_) => {}
-        Kept::AsBits(shown) => read_off::<J>(bits, shown, samples),
+        Kept::AsSamples(_) => Samples::Bytes(bytes),
+        Kept::AsBits(shown, mut words) => {
+            read_off::<J>(bits, &shown, words.as_mut_slice());
+            Samples::Words(words)
+        }
     }
 }
 

@@ -6,80 +6,28 @@ ghost use Rattle.board.specs.Kept.{in_planes, AreSamples};
 ghost use Rattle.board.specs.Seen.{place_of_cell, HasSample, HasSamples, LiesIn, StaysShown};
 ghost use Rattle.board.specs.Sheets.{bits_at, AreOfRow};
 
+use crate::bytes::write_each;
 use crate::kept::pixel_of;
 use crate::law::Run;
-use crate::putting::Values;
 use crate::source::Planes;
 use orders::CellRuns;
 
-// Writes a row of cells into a part where their samples stand side by side, the first of them at this place.
-fn show_beside<J: Run, V: Values>(
-    planes: Planes,
-    before: usize,
-    first: usize,
-    values: &V,
-    given: usize,
-    count: usize,
-    part: &mut [u16],
-    from: usize,
-    place: usize,
-)
-    requires values { given + count ≤ length (V.bits values.now) }
-    requires few { given + count < 2 ^ 32 }
-    requires row { AreOfRow J.values (V.bits values.now) given first count }
-    requires samples { AreSamples J.values before (before + in_planes planes) }
-    requires lies { (k : ℕ) → k < count → LiesIn planes before from (length part.old) (first + k) }
-    requires places { (k : ℕ) → k < count → place_of_cell planes before (first + k) ≡ from + (place + k) }
-    ensures shown { HasSamples planes before J.values from part.new first count }
-    ensures more { StaysShown planes before J.values from part.old part.new }
-{
-    for more in 0..count {
-        part[place + more] = values.at(given + more) as u16;
-    }
-}
-
-// Writes a row of cells into a part where each sample stands one pixel behind the one before, the first of them at this place.
-fn show_apart<J: Run, V: Values>(
-    planes: Planes,
-    before: usize,
-    first: usize,
-    values: &V,
-    given: usize,
-    count: usize,
-    part: &mut [u16],
-    from: usize,
-    place: usize,
-)
-    requires values { given + count ≤ length (V.bits values.now) }
-    requires few { given + count < 2 ^ 32 }
-    requires row { AreOfRow J.values (V.bits values.now) given first count }
-    requires samples { AreSamples J.values before (before + in_planes planes) }
-    requires lies { (k : ℕ) → k < count → LiesIn planes before from (length part.old) (first + k) }
-    requires places { (k : ℕ) → k < count → place_of_cell planes before (first + k) ≡ from + (place + k * planes.colours) }
-    ensures shown { HasSamples planes before J.values from part.new first count }
-    ensures more { StaysShown planes before J.values from part.old part.new }
-{
-    for more in 0..count {
-        part[place + more * planes.colours] = values.at(given + more) as u16;
-    }
-}
-
 // Writes a row of cells of one colour into a part that has the samples of all of them. The first has this pixel and this colour.
-fn show_colour<J: Run, V: Values>(
+fn show_colour<J: Run>(
     planes: Planes,
     before: usize,
     first: usize,
-    values: &V,
+    values: &[u32],
     given: usize,
     count: usize,
-    part: &mut [u16],
+    part: &mut [u8],
     from: usize,
     pixel: usize,
     colour: usize,
 )
-    requires values { given + count ≤ length (V.bits values.now) }
+    requires values { given + count ≤ length values.now }
     requires few { given + count < 2 ^ 32 }
-    requires row { AreOfRow J.values (V.bits values.now) given first count }
+    requires row { AreOfRow J.values values.now given first count }
     requires samples { AreSamples J.values before (before + in_planes planes) }
     requires short { from + length part.old < 2 ^ 32 }
     requires some { 0 < count }
@@ -91,31 +39,23 @@ fn show_colour<J: Run, V: Values>(
     ensures more { StaysShown planes before J.values from part.old part.new }
 {
     let place = pixel * planes.colours + colour - from;
-    if planes.colours == 1 {
-        show_beside::<J, V>(
-            planes, before, first, values, given, count, part, from, place,
-        );
-    } else {
-        show_apart::<J, V>(
-            planes, before, first, values, given, count, part, from, place,
-        );
-    }
+    write_each(part, place, planes.colours, values, given, count);
 }
 
 // Writes a row of cells where a part has the samples of all of them, and they are of one colour. Else it says no.
-fn show_row<J: Run, V: Values>(
+fn show_row<J: Run>(
     planes: Planes,
     before: usize,
     first: usize,
-    values: &V,
+    values: &[u32],
     given: usize,
     count: usize,
-    part: &mut [u16],
+    part: &mut [u8],
     from: usize,
 ) -> bool
-    requires values { given + count ≤ length (V.bits values.now) }
+    requires values { given + count ≤ length values.now }
     requires few { given + count < 2 ^ 32 }
-    requires row { AreOfRow J.values (V.bits values.now) given first count }
+    requires row { AreOfRow J.values values.now given first count }
     requires samples { AreSamples J.values before (before + in_planes planes) }
     requires short { (in_planes planes < 2 ^ 32) × (from + length part.old < 2 ^ 32) }
     requires inside { 0 < count → first + count ≤ before + in_planes planes }
@@ -136,7 +76,7 @@ fn show_row<J: Run, V: Values>(
     if place < from || from + part.len() <= place + (count - 1) * planes.colours {
         return false;
     }
-    show_colour::<J, V>(
+    show_colour::<J>(
         planes, before, first, values, given, count, part, from, pixel, colour,
     );
     true
@@ -144,15 +84,15 @@ fn show_row<J: Run, V: Values>(
 
 /// Writes the values of cells into a part of the picture's samples, which begins at this place of all, where it has the samples of
 /// all of them. Else it says no, and may have written some. What cells of the part had they have still.
-pub(crate) fn show_in<J: Run, V: Values>(
+pub(crate) fn show_in<J: Run>(
     planes: Planes,
     before: usize,
     cells: &CellRuns,
-    values: &V,
-    part: &mut [u16],
+    values: &[u32],
+    part: &mut [u8],
     from: usize,
 ) -> bool
-    requires values { V.bits values.now ≡ bits_at J.values cells.now }
+    requires values { values.now ≡ bits_at J.values cells.now }
     requires samples { AreSamples J.values before (before + in_planes planes) }
     requires short { (in_planes planes < 2 ^ 32) × (from + length part.old < 2 ^ 32) }
     requires inside { (k : ℕ) → k < length cells.now → slice_index cells.now k < before + in_planes planes }
@@ -165,7 +105,7 @@ pub(crate) fn show_in<J: Run, V: Values>(
     for run in cells.runs() {
         let first = run.first as usize;
         let count = run.count as usize;
-        if !show_row::<J, V>(planes, before, first, values, given, count, part, from) {
+        if !show_row::<J>(planes, before, first, values, given, count, part, from) {
             return false;
         }
         given += count;

@@ -1,5 +1,5 @@
 -- How many bytes an image file takes at most.
-use Rattle.std.proofs.Common.{◌≡◌, ◌≤◌, ◌<◌, ◌*◌, ◌+◌, ◌++◌, ◌^◌, ℕ, Bool, true, false, List, [], ◌∷◌, length, decimal, arith, refl, ap, subst, sym}
+use Rattle.std.proofs.Common.{◌≡◌, ◌≤◌, ◌<◌, ◌*◌, ◌+◌, ◌++◌, ◌^◌, ℕ, Bool, true, false, List, [], ◌∷◌, length, decimal, arith, refl, ap, subst, sym, inl, inr}
 use Rattle.std.specs.List.{flat_map}
 use Rattle.std.proofs.lemmas.Fmt.{length-decimal-le}
 use Rattle.std.proofs.lemmas.List.{length-append}
@@ -15,7 +15,7 @@ use Rattle.algo.specs.Parts.{output_frame}
 use Rattle.algo.specs.View.{picture_said}
 use Rattle.pnm.specs.Reading.{has_colours, height_of, width_of}
 use Rattle.pnm.specs.Text.{magic, numbers, sample_bytes, text_of}
-use Rattle.commands.specs.Rooms.{sample_length, SufficesFor}
+use Rattle.commands.specs.Rooms.{sample_length, HasRoom, HasRoomFor, SufficesFor}
 
 -- ---- the header
 
@@ -97,6 +97,20 @@ text_fits f h p ty extents count =
     rw (sym count, sym ty) fits
 
 -- the picture that an algorithm says is of the output's shape
-pub said_fits : (a : Algorithm) (samples : List ℕ) (n : ℕ) → SufficesFor (output_frame a) n → length (text_of (picture_said a samples)) ≤ n
+said_fits : (a : Algorithm) (samples : List ℕ) (n : ℕ) → SufficesFor (output_frame a) n → length (text_of (picture_said a samples)) ≤ n
 said_fits a samples n room =
     room (picture_said a samples) refl refl (length-map-range_with_len (λ k. natural (output_value a samples (raster_point a.output_extents k))) 0 (sample_count a.output_extents))
+
+pub said_has_room : (a : Algorithm) (samples : List ℕ) (own other : ℕ) → HasRoom (output_frame a) own other → HasRoomFor (picture_said a samples) own other
+said_has_room a samples own other (inl room) = inl (said_fits a samples own room)
+said_has_room a samples own other (inr room) = inr (said_fits a samples other room)
+
+suffices_more : (f : Frame) (n m : ℕ) → n ≤ m → SufficesFor f n → SufficesFor f m
+suffices_more f n m le room p ty extents count = let fits = room p ty extents count in omega (arith, fits, le)
+
+-- the memory that is there suffices, or what is taken beside it
+pub room_there : (f : Frame) (most own other : ℕ) → SufficesFor f most → most ≤ other → HasRoom f own other
+room_there f most own other room le = inr (suffices_more f most other le room)
+
+pub room_taken : (f : Frame) (most own other : ℕ) → SufficesFor f most → own ≡ most → HasRoom f own other
+room_taken f most own other room e = inl (suffices_more f most own (omega (arith, e)) room)

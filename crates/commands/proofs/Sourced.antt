@@ -1,5 +1,5 @@
 -- What was read of files before a command's last step, and why it ends where one is refused.
-use Rattle.std.proofs.Common.{◌≡◌, ◌∙◌, ◌⊎◌, ap, subst, sym, List, ℕ, Result, Ok, Err, IfOk, inl, inr}
+use Rattle.std.proofs.Common.{◌≡◌, ◌∙◌, ◌⊎◌, ap, List, ℕ, Result, Ok, Err, IfOk, inl, inr}
 use Rattle.std.specs.Global.{Vec}
 use Rattle.std.specs.Prelude.{OnOk}
 use Rattle.clap.specs.Words.{Text}

@@ -1,5 +1,5 @@
 -- What the command that cuts an algorithm into tiles does to the files.
-use Rattle.std.specs.Prelude.{◌≡◌, ◌⊎◌, ◌<◌, ℕ, ◌+◌, List, ◌++◌, Option, None, Some, codes, length, map, slice_get, unsigned_abs, decimal, string_bytes, ⊤}
+use Rattle.std.specs.Prelude.{◌≡◌, ◌⊎◌, ◌<◌, ℕ, List, ◌++◌, Option, None, Some, codes, length, map, slice_get, unsigned_abs, decimal, string_bytes, ⊤}
 use Rattle.std.specs.List.{flat_map, range_with_len, AllZip}
 use Rattle.clap.specs.Words.{Text}
 use Rattle.meaning.specs.Algorithm.{Algorithm}

@@ -17,7 +17,7 @@ use crate::replay::order_file;
 use crate::request::DrawRequest;
 use algo::{Algo, Inputs};
 use checked_plan::Checked;
-use meaning::image::Image;
+use meaning::image::{Image, Samples};
 use report::drawing::{Cells, draw};
 use std::alloc::{AllocError, Global};
 use std::thread::Threads;
@@ -29,7 +29,7 @@ fn black(alloc: Global, algo: &Algo) -> Result<Inputs, AllocError>
     let shape = algo.input().shape.copy(alloc)?;
     let image = Image {
         ty: shape.ty,
-        samples: vec![in alloc; 0; shape.sample_count()]?,
+        samples: Samples::Bytes(vec![in alloc; 0; shape.sample_count()]?),
         extents: shape.extents,
     };
     match Inputs::new(algo, image) {

@@ -1,22 +1,20 @@
 //! The commands that write a picture: by the definitions of an algorithm alone, and by the plan of a file.
 
-ghost use Rattle.std.specs.Prelude.{◌≡◌, Some, IfOk, IfErr, OnOk};
-ghost use Rattle.algo.specs.Parts.{input_frame};
+ghost use Rattle.std.specs.Prelude.{◌≡◌, IfOk, IfErr, OnOk};
 ghost use Rattle.algo.specs.Refusal.{IsAlgorithmText};
 ghost use Rattle.algo.specs.View.{algorithm_of, picture_said, samples_of, IsFor};
 ghost use Rattle.plain.specs.Picture.{AllWithin};
-ghost use Rattle.pnm.specs.Reading.{reading, wanted_of};
 ghost use Rattle.pnm.specs.Text.{text_of};
 ghost use Rattle.commands.specs.Asked.{picture_asked, way_asked};
 ghost use Rattle.commands.specs.Files.{SameFiles};
 ghost use Rattle.commands.specs.Means.{AreMeans, IsAfforded, IsHalted, algo_meant, stores_checked};
-ghost use Rattle.commands.specs.Pictures.{IsDone, IsImageFault, IsRefused, IsTextFault, IsTooDear, IsUnready, IsWithin};
+ghost use Rattle.commands.specs.Pictures.{IsDone, IsRefused, IsTextFault, IsTooDear, IsUnready, IsWithin};
 ghost use Rattle.commands.specs.Pipeline.Pictures.{IsBudgetSpent};
 ghost use Rattle.commands.specs.Sources.{IsAlgorithmFile, IsImageFile, IsNoAlgorithmFile, IsNoImageFile, IsPictureOf, IsPicturePut, IsPictureUnput, IsUnmade};
 
 use crate::device::{Files, put_file};
-use crate::file::{file_of, room_for};
-use crate::pipeline::{Fault, plain_picture, plan_file, read_algorithm, read_inputs};
+use crate::file::{file_in, room_for};
+use crate::pipeline::{Fault, plain_picture, plan_file, read_algorithm, read_image};
 use crate::plan_command::plan_in;
 use crate::request::{PictureRequest, Way};
 use algo::{Algo, Inputs};
@@ -106,16 +104,6 @@ fn means_of<'a, T: Threads + Sync, F: Files>(
     }
 }
 
-/// Reads an image file as the input of an algorithm.
-fn image_in(alloc: Global, algo: &Algo, bytes: &[u8]) -> Result<Inputs, Fault>
-    ensures fits { IfOk result (λ inputs. IsFor algo.now inputs) }
-    ensures read { IfOk result (λ inputs. reading (wanted_of (input_frame (algorithm_of algo.now))) bytes.now ≡ Ok (samples_of inputs)) }
-    ensures refused { IfErr result (IsImageFault (input_frame (algorithm_of algo.now)) bytes.now) }
-{
-    let mut rest = bytes;
-    read_inputs(alloc, algo, &mut rest)
-}
-
 /// Reads an image file by its name as the input of an algorithm.
 pub fn image_file<F: Files>(
     alloc: Global,
@@ -129,7 +117,7 @@ pub fn image_file<F: Files>(
     ensures refused { IfErr result (IsNoImageFile (F.contents files.old) name.now (algorithm_of algo.now)) }
 {
     let bytes = files.get(alloc, name)?;
-    image_in(alloc, algo, bytes.as_slice())
+    read_image(alloc, algo, bytes)
 }
 
 /// The image file of the picture that an algorithm says of an input, each pixel computed by the definitions alone. All its bytes
@@ -138,17 +126,17 @@ fn plain_file<T: Threads + Sync>(
     rt: &T,
     alloc: Global,
     algo: &Algo,
-    inputs: &Inputs,
+    inputs: Inputs,
     most: u64,
 ) -> Result<Vec<u8>, Fault>
-    requires { IsFor algo.now inputs.now }
-    ensures within { OnOk result (AllWithin (algorithm_of algo.now) (samples_of inputs.now) most) }
-    ensures written { IfOk result (λ file. file.items ≡ text_of (picture_said (algorithm_of algo.now) (samples_of inputs.now))) }
-    ensures refused { IfErr result (IsBudgetSpent (algorithm_of algo.now) (samples_of inputs.now) most) }
+    requires { IsFor algo.now inputs }
+    ensures within { OnOk result (AllWithin (algorithm_of algo.now) (samples_of inputs) most) }
+    ensures written { IfOk result (λ file. file.items ≡ text_of (picture_said (algorithm_of algo.now) (samples_of inputs))) }
+    ensures refused { IfErr result (IsBudgetSpent (algorithm_of algo.now) (samples_of inputs) most) }
 {
-    let file = room_for(alloc, algo)?;
-    let image = plain_picture(rt, alloc, algo, inputs, most)?;
-    Ok(file_of(file, &image))
+    let file = room_for(alloc, algo, &inputs)?;
+    let image = plain_picture(rt, alloc, algo, &inputs, most)?;
+    Ok(file_in(alloc, file, inputs, &image))
 }
 
 /// The image file of the picture.
@@ -157,12 +145,12 @@ fn picture_file<T: Threads + Wait + Sync, F: Files>(
     alloc: Global,
     files: &F,
     means: &Means<'_>,
-    inputs: &Inputs,
+    inputs: Inputs,
 ) -> Result<Vec<u8>, Fault>
-    requires { IsFor (algo_meant means.now) inputs.now }
-    ensures afforded { OnOk result (IsAfforded means.now (samples_of inputs.now)) }
-    ensures written { IfOk result (λ file. file.items ≡ text_of (picture_said (algorithm_of (algo_meant means.now)) (samples_of inputs.now))) }
-    ensures refused { IfErr result (IsHalted means.now (samples_of inputs.now)) }
+    requires { IsFor (algo_meant means.now) inputs }
+    ensures afforded { OnOk result (IsAfforded means.now (samples_of inputs)) }
+    ensures written { IfOk result (λ file. file.items ≡ text_of (picture_said (algorithm_of (algo_meant means.now)) (samples_of inputs))) }
+    ensures refused { IfErr result (IsHalted means.now (samples_of inputs)) }
 {
     match means {
         Means::Definitions { algo, most } => plain_file(rt, alloc, algo, inputs, *most),
@@ -187,7 +175,7 @@ fn picture_of<T: Threads + Wait + Sync, F: Files>(
 {
     let means = means_of(rt, alloc, files, request.way, algo)?;
     let inputs = image_file(alloc, files, algo, request.input)?;
-    picture_file(rt, alloc, files, &means, &inputs)
+    picture_file(rt, alloc, files, &means, inputs)
 }
 
 /// Writes this picture, after everything else has succeeded.

@@ -9,10 +9,11 @@ mod reading;
 mod rule;
 mod without_plan;
 
+pub use crate::file::file_in;
 pub use by_plan::{check_plan, plan_picture, run_between, run_over};
 pub use fault::Fault;
-pub use image_file::{file_alone, file_by_crew, plan_file};
-pub use reading::{read_algorithm, read_inputs};
+pub use image_file::plan_file;
+pub use reading::{read_algorithm, read_image};
 pub use rule::BrokenRule;
 pub use without_plan::{BUDGET, plain_picture};
 /// What replays the steps of a checked plan.

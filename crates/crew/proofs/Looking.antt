@@ -1,7 +1,7 @@
 -- Cells that are looked at together.
-use Rattle.std.proofs.Common.{◌≡◌, ◌+◌, ◌<◌, ℕ, ℤ, pos, List, [], ◌∷◌, ◌++◌, get_or, length, refl, sym, ap, subst, ◌∙◌}
-use Rattle.std.specs.Prelude.{drop, map, slice_index, take}
-use Rattle.std.proofs.lemmas.List.{get_or-drop, get_or-take, map-append, take-append-drop}
+use Rattle.std.proofs.Common.{◌≡◌, ◌+◌, ℕ, ℤ, pos, List, [], ◌∷◌, ◌++◌, refl, sym, ap, ◌∙◌}
+use Rattle.std.specs.Prelude.{drop, map, take}
+use Rattle.std.proofs.lemmas.List.{map-append, take-append-drop}
 use Rattle.board.specs.Layout.{value_at}
 use Rattle.board.specs.Sheets.{bits_at}
 use Rattle.board.specs.Words.{bits_of}

@@ -1,18 +1,18 @@
 -- What workers in stages leave of their pieces.
 use Rattle.std.proofs.Common.{◌≡◌, inl, inr, ℕ, ◌+◌, ◌-◌, ◌^◌, ◌<◌, ◌≤◌, ◌∙◌, ◌++◌, List, [], ◌∷◌, ℤ, Vec, map, length, set, get_or, sym, ap, refl, subst, arith, get_or-set_same, get_or-set_other}
 use Rattle.std.specs.Global.{Global}
-use Rattle.std.specs.Prelude.{Contains, slice_index, slice_index_or, vec_capacity}
+use Rattle.std.specs.Prelude.{Contains, slice_index}
 use Rattle.std.proofs.lemmas.Bool.{cases_lt}
 use Rattle.std.proofs.lemmas.Simd.{map-map}
 use Rattle.std.proofs.lemmas.List.{get_or_append_left, get_or-append_right, get_or_push, length-append}
-use Rattle.board.specs.Layout.{Layout, own_of, pieces_of, value_at}
-use Rattle.board.specs.Seen.{beside, seen_bits, IsShown, NoneShown, Seen, StaysShown}
+use Rattle.board.specs.Layout.{Layout, pieces_of, value_at}
+use Rattle.board.specs.Seen.{beside, seen_bits, NoneShown, Seen, StaysShown}
 use Rattle.board.specs.Sheets.{bits_at, IsPut}
 use Rattle.board.specs.Words.{bits_of}
 use Rattle.board.proofs.InParts.{put_beside, put_shown, shown_in_back, shown_in_front, shown_still}
 use Rattle.checked_plan.specs.declared.checked.Checked.{Checked}
 use Rattle.crew.specs.Private.{needs_of}
-use Rattle.crew.specs.Stages.{AreDone, AreFresh, AreFreshFrom, ArePut, CanCompute, CanWork, HasWorked, IsDesk, IsDone, IsFresh, IsLeft, IsStage}
+use Rattle.crew.specs.Stages.{AreFresh, AreFreshFrom, ArePut, CanCompute, CanWork, HasWorked, IsDesk, IsDone, IsFresh, IsLeft, IsStage}
 use Rattle.crew.specs.declared.values.Desk.{Desk}
 use Rattle.interpreter.specs.declared.scratch.Scratch.{Scratch}
 use Rattle.orders.proofs.Claiming.{place_of}

@@ -167,9 +167,10 @@ impl<'a, J: Run> Model for PreparedAlone<'a, J> {
 impl<'a, J: Run> PreparedAlone<'a, J> {
     /// A run that has not begun. `cells` numbers the plan's cells.
     ///
-    /// It takes all memory of the run: 8 bytes for each piece, 2 for each sample of the picture, 4 for each cell of another group
-    /// than the output's, and that of one desk. Where the region of the output's group is larger than the picture, or cells of other
-    /// groups come after its own, it takes 4 for each cell, and in the first case 4 more for each sample.
+    /// It takes all memory of the run: 8 bytes for each piece, one for each sample of the picture, 4 for each cell of another group
+    /// than the output's, and that of one desk. Where the samples have 16 bits, the region of the output's group is larger than the
+    /// picture, or cells of other groups come after its own, it takes 4 for each cell and 2 for each sample, and where that region is
+    /// larger 4 more for each sample.
     ///
     /// # Errors
     /// `AllocError` where memory runs out.

@@ -119,7 +119,7 @@ fn leave<J: Run>(
     piece: u32,
     bits: &[u32],
     list: &mut Vec<u32>,
-    part: &mut [u16],
+    part: &mut [u8],
     from: usize,
 )
     requires piece { piece < pieces_of J.layout }
@@ -188,7 +188,7 @@ fn compute_apart<J: Run, P: PrivateRuns<J>, G: Gate, D: HasDesk>(
     piece: u32,
     desk: &mut D,
     list: &mut Vec<u32>,
-    part: &mut [u16],
+    part: &mut [u8],
     from: usize,
 )
     requires runs { P.gives runs.now }
@@ -218,7 +218,7 @@ fn work_in_turn<J: Run, P: PrivateRuns<J>, G: Gate, D: HasDesk>(
     from: usize,
     desk: &mut D,
     lists: &mut [Vec<u32>],
-    part: &mut [u16],
+    part: &mut [u8],
 )
     requires runs { P.gives runs.now }
     requires can { CanCompute J.layout J.values (P.plan runs.now) (seen_bits seen.now) first (length lists.old) }
@@ -276,7 +276,7 @@ fn work_together<
     from: usize,
     desks: &mut [D],
     lists: &mut [Vec<u32>],
-    part: &mut [u16],
+    part: &mut [u8],
 )
     requires runs { P.gives runs.now }
     requires can { CanWork D.desk J.layout J.values (P.plan runs.now) (P.suffices runs.now) (seen_bits seen.now) first from desks.old lists.old part.old }
@@ -342,12 +342,12 @@ fn work_halves<
     from: usize,
     some_desks: &mut [D],
     some_lists: &mut [Vec<u32>],
-    some_samples: &mut [u16],
+    some_samples: &mut [u8],
     later: usize,
     cut: usize,
     other_desks: &mut [D],
     other_lists: &mut [Vec<u32>],
-    other_samples: &mut [u16],
+    other_samples: &mut [u8],
 )
     requires runs { P.gives runs.now }
     requires front { CanWork D.desk J.layout J.values (P.plan runs.now) (P.suffices runs.now) (seen_bits seen.now) first from some_desks.old some_lists.old some_samples.old }
@@ -402,7 +402,7 @@ fn work_in_parts<J: Run + Send + Sync, P: PrivateRuns<J> + Sync, R: Threads + Wa
     first: usize,
     desks: &mut [Desk<'_>],
     lists: &mut [Vec<u32>],
-    samples: &mut [u16],
+    samples: &mut [u8],
 )
     requires runs { P.gives runs.now }
     requires none { NoneShown J.layout seen.now first }
@@ -430,7 +430,7 @@ fn work_beside<J: Run + Send + Sync, P: PrivateRuns<J> + Sync, R: Threads + Wait
     first: usize,
     desks: &mut [Desk<'_>],
     lists: &mut [Vec<u32>],
-    none: &mut [u16],
+    none: &mut [u8],
 )
     requires runs { P.gives runs.now }
     requires none { length none.old ≡ 0 }
@@ -456,7 +456,7 @@ fn work_stage<J: Run + Send + Sync, P: PrivateRuns<J> + Sync, R: Threads + Wait 
     first: usize,
     desks: &mut [Desk<'_>],
     lists: &mut [Vec<u32>],
-    samples: &mut [u16],
+    samples: &mut [u8],
 )
     requires runs { P.gives runs.now }
     requires put { ArePut J.layout J.values (seen_bits (beside sheet.now samples.old)) first }
@@ -467,14 +467,14 @@ fn work_stage<J: Run + Send + Sync, P: PrivateRuns<J> + Sync, R: Threads + Wait 
     ensures desks { AreDesks J.layout (P.plan runs.now) (P.suffices runs.now) desks.new }
     ensures lists { AreDone J.layout J.values sheet.now 0 samples.new first lists.new }
 {
-    let none = [0u16; 0];
+    let none = [0u8; 0];
     let bare = (&*sheet).cells(&none);
     if samples.len() <= u32::MAX as usize && bare.none_shown(first as u32) {
         work_in_parts::<J, P, R, G>(rt, alloc, &bare, runs, gate, first, desks, lists, samples);
         return;
     }
     let seen = (&*sheet).cells(&*samples);
-    let mut nothing = [0u16; 0];
+    let mut nothing = [0u8; 0];
     work_beside::<J, P, R, G>(
         rt,
         alloc,

@@ -27,5 +27,6 @@ pub mod StoreLines
 pub mod LineCodes
 pub mod Joining
 pub mod Shifting
+pub mod SampleRows
 pub mod Scanlines
 pub mod CellRows

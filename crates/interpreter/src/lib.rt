@@ -22,6 +22,7 @@ mod row_visits;
 mod run;
 mod run_reading;
 mod runs;
+mod samples;
 mod scanlines;
 mod scratch;
 mod shifting;

@@ -31,6 +31,9 @@ pub(crate) struct Places<'a> {
     pub right: &'a [usize],
 }
 
+/// How many lists of places there are: of the points that are stored to, and of the own points of both operands.
+pub(crate) const LISTS: usize = 3;
+
 /// The number of the place at a turn.
 #[inline(always)]
 pub(crate) fn place_of(places: &[usize], turn: usize) -> usize
@@ -90,9 +93,9 @@ fn copy_places(from: &[usize], count: usize, places: &mut [usize])
     requires count { count ≤ length places.old }
     ensures { (k : ℕ) → k < count → place_at places.new k ≡ place_at from.now k }
 {
-    for turn in 0..count {
-        places[turn] = from[turn];
-    }
+    let (first, _) = from.split_at(count);
+    let (to, _) = places.split_at_mut(count);
+    to.copy_from_slice(first);
 }
 
 /// Puts in the numbers of the places of points of so many coordinates, which are those of the point that is stored to where they are

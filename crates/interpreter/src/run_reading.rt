@@ -1,6 +1,6 @@
 //! What a store's expression is evaluated over at the turns of a run.
 
-ghost use Rattle.std.specs.Prelude.{◌≡◌, ◌∷◌, ◌<◌, ℕ, ℤ, Some, IfSome, drop, length, map, pos, ◌+ℤ◌, ◌-ℤ◌, ◌*ℤ◌, string_bytes};
+ghost use Rattle.std.specs.Prelude.{◌≡◌, ◌∷◌, ◌<◌, ◌≤◌, ℕ, ℤ, Some, IfSome, drop, length, map, pos, ◌+ℤ◌, ◌-ℤ◌, ◌*ℤ◌, string_bytes};
 ghost use Rattle.tree.specs.declared.value.Value.{Value as ValueFound};
 ghost use Rattle.tree.specs.Meaning.{typed};
 ghost use Rattle.plan.specs.Semantics.Memory.{Memory};
@@ -20,10 +20,11 @@ use crate::evaluation::{
 };
 use crate::loads::{claim_of, is_named};
 use crate::piece::Piece;
-use crate::reading::{Reading, number_bound};
+use crate::reading::{Reading, numbers_bound};
+use crate::samples::{SampleRow, all_samples, put_samples, samples_among};
 use crate::scanlines::{
-    Pixels, copy_words, distance, pixels_beside, put_pixels, put_samples, sample_type,
-    samples_beside, take_numbers, take_pixels, take_samples, type_held, window,
+    Pixels, copy_words, distance, pixels_beside, put_pixels, sample_type, samples_beside,
+    take_numbers, take_pixels, take_samples, type_held,
 };
 use numeric::Ty;
 use plan::Coordinate;
@@ -52,6 +53,7 @@ pub(crate) enum Source {
 
 impl RunReading<'_, '_> {
     ghost use Rattle.interpreter.specs.RunReadings.{source_at, IsAside, Means};
+    ghost use Rattle.interpreter.specs.SampleRows.{sampled};
     ghost use Rattle.interpreter.specs.Scanlines.{pixel_along, sample_along};
     ghost use Rattle.interpreter.specs.declared.run_reading.Source.TheVariants.{Input, Buffer};
 
@@ -111,11 +113,15 @@ impl RunReading<'_, '_> {
     }
 
     /// The input's samples at the points with at most one coordinate behind the first one, from the first sample on.
-    fn samples(&self, others: &[i64]) -> Option<&[u16]>
-        ensures { IfSome result (λ row. (z n : ℤ) → sample_along row.now z ≡ Some n → (around self.now.piece.now no_cells).sample (z ∷ others.now) ≡ Some (typed self.now.piece.now.plan.now.input.ty n)) }
+    fn samples(&self, others: &[i64]) -> Option<SampleRow<'_>>
+        ensures { IfSome result (λ row. (z n : ℤ) → sample_along (sampled row) z ≡ Some n → (around self.now.piece.now no_cells).sample (z ∷ others.now) ≡ Some (typed self.now.piece.now.plan.now.input.ty n)) }
     {
         let image = self.piece.image;
-        samples_beside(image.extents.as_slice(), image.samples.as_slice(), others)
+        samples_beside(
+            image.extents.as_slice(),
+            all_samples(&image.samples),
+            others,
+        )
     }
 
     /// What the input has at points that differ in the first coordinate.
@@ -133,10 +139,14 @@ impl RunReading<'_, '_> {
 
     /// The input's samples at the points with two coordinates behind the first one, from the first sample on.
     fn pixels(&self, others: &[i64]) -> Option<Pixels<'_>>
-        ensures { IfSome result (λ row. (z n : ℤ) → pixel_along row.colours row.colour row.samples.now z ≡ Some n → (around self.now.piece.now no_cells).sample (z ∷ others.now) ≡ Some (typed self.now.piece.now.plan.now.input.ty n)) }
+        ensures { IfSome result (λ row. (z n : ℤ) → pixel_along row.colours row.colour (sampled row.samples) z ≡ Some n → (around self.now.piece.now no_cells).sample (z ∷ others.now) ≡ Some (typed self.now.piece.now.plan.now.input.ty n)) }
     {
         let image = self.piece.image;
-        pixels_beside(image.extents.as_slice(), image.samples.as_slice(), others)
+        pixels_beside(
+            image.extents.as_slice(),
+            all_samples(&image.samples),
+            others,
+        )
     }
 
     /// What an input of three dimensions has at points that differ in the first coordinate.
@@ -177,22 +187,25 @@ impl RunReading<'_, '_> {
         Some(ty)
     }
 
-    /// The samples that an input of fewer dimensions has at points whose first coordinate rises by one.
-    fn put_sample_row(&self, first: i64, others: &[i64], out: &mut [u32]) -> Option<()>
-        ensures { IfSome result (λ _. (k : ℕ) → k < length out.new → source_at self.now (memory_of self.now.memory.now) Input ((first +ℤ pos k) ∷ others.now) ≡ Some (typed self.now.piece.now.plan.now.input.ty (pos (bits_at out.new k)))) }
+    /// The samples that an input of fewer dimensions has at points whose first coordinate rises by one: a number that none of them
+    /// is above.
+    fn put_sample_row(&self, first: i64, others: &[i64], out: &mut [u32]) -> Option<u32>
+        ensures there { IfSome result (λ _. (k : ℕ) → k < length out.new → source_at self.now (memory_of self.now.memory.now) Input ((first +ℤ pos k) ∷ others.now) ≡ Some (typed self.now.piece.now.plan.now.input.ty (pos (bits_at out.new k)))) }
+        ensures most { IfSome result (λ m. (k : ℕ) → k < length out.new → bits_at out.new k ≤ m) }
     {
         let samples = self.samples(others)?;
         if first < 0 {
             return None;
         }
-        let row = window(samples, first as usize, out.len())?;
-        put_samples(row, out);
-        Some(())
+        let row = samples_among(samples, first as usize, out.len())?;
+        Some(put_samples(row, out))
     }
 
-    /// The samples that an input of three dimensions has at points whose first coordinate rises by one.
-    fn put_pixel_row(&self, first: i64, others: &[i64], out: &mut [u32]) -> Option<()>
-        ensures { IfSome result (λ _. (k : ℕ) → k < length out.new → source_at self.now (memory_of self.now.memory.now) Input ((first +ℤ pos k) ∷ others.now) ≡ Some (typed self.now.piece.now.plan.now.input.ty (pos (bits_at out.new k)))) }
+    /// The samples that an input of three dimensions has at points whose first coordinate rises by one: a number that none of them
+    /// is above.
+    fn put_pixel_row(&self, first: i64, others: &[i64], out: &mut [u32]) -> Option<u32>
+        ensures there { IfSome result (λ _. (k : ℕ) → k < length out.new → source_at self.now (memory_of self.now.memory.now) Input ((first +ℤ pos k) ∷ others.now) ≡ Some (typed self.now.piece.now.plan.now.input.ty (pos (bits_at out.new k)))) }
+        ensures most { IfSome result (λ m. (k : ℕ) → k < length out.new → bits_at out.new k ≤ m) }
     {
         let pixels = self.pixels(others)?;
         if first < 0 {
@@ -201,9 +214,10 @@ impl RunReading<'_, '_> {
         put_pixels(pixels, first as usize, out)
     }
 
-    /// The samples that the input has at points whose first coordinate rises by one.
-    fn put_input_row(&self, first: i64, others: &[i64], out: &mut [u32]) -> Option<()>
-        ensures { IfSome result (λ _. (k : ℕ) → k < length out.new → source_at self.now (memory_of self.now.memory.now) Input ((first +ℤ pos k) ∷ others.now) ≡ Some (typed self.now.piece.now.plan.now.input.ty (pos (bits_at out.new k)))) }
+    /// The samples that the input has at points whose first coordinate rises by one: a number that none of them is above.
+    fn put_input_row(&self, first: i64, others: &[i64], out: &mut [u32]) -> Option<u32>
+        ensures there { IfSome result (λ _. (k : ℕ) → k < length out.new → source_at self.now (memory_of self.now.memory.now) Input ((first +ℤ pos k) ∷ others.now) ≡ Some (typed self.now.piece.now.plan.now.input.ty (pos (bits_at out.new k)))) }
+        ensures most { IfSome result (λ m. (k : ℕ) → k < length out.new → bits_at out.new k ≤ m) }
     {
         if others.len() == 2 {
             self.put_pixel_row(first, others, out)
@@ -222,8 +236,8 @@ impl RunReading<'_, '_> {
     ) -> Option<Ty>
         ensures { IfSome result (λ t. (k : ℕ) → k < length out.new → found_as cast (source_at self.now (memory_of self.now.memory.now) Input ((first +ℤ pos k) ∷ others.now)) ≡ Some (typed t (word_at t out.new k))) }
     {
-        self.put_input_row(first, others, out)?;
-        sample_type(self.piece.plan.input.ty, cast, out)
+        let most = self.put_input_row(first, others, out)?;
+        sample_type(self.piece.plan.input.ty, cast, most, out)
     }
 
     /// What a buffer has at points whose first coordinate rises by one, cast to the type, if there is one.
@@ -349,8 +363,7 @@ impl RunReader for RunReading<'_, '_> {
         if self.first.len() != self.second.len() {
             return None;
         }
-        let first = number_bound(self.coordinates, self.first, name);
-        let second = number_bound(self.coordinates, self.second, name);
+        let (first, second) = numbers_bound(self.coordinates, self.first, self.second, name);
         lanes_of(first, second, out)
     }
 

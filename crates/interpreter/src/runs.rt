@@ -33,7 +33,7 @@ ghost use Rattle.interpreter.specs.Visits.{between};
 use crate::buffers::{Buffers, Spot};
 use crate::evaluation::{Stop, evaluate_words};
 use crate::piece::Piece;
-use crate::placing::{Places, Target, place_update};
+use crate::placing::{LISTS, Places, Target, place_update};
 use crate::registers::{LONGEST_RUN, LONGEST_UPDATE, SHORTEST_RUN, value_at};
 use crate::row::Row;
 use crate::run_reading::RunReading;
@@ -45,6 +45,7 @@ use crate::turns::{Turns, turn};
 use crate::updates::{Update, is_update, store_turns, update_part};
 use numeric::Ty;
 use plan::{Coordinate, Index, Stmt};
+use std::mem::replace;
 use tree::Expr;
 
 /// Whether all coordinates are known by forms.
@@ -440,8 +441,66 @@ fn store_known_part<'a>(
     }
 }
 
-/// An update at some turns of a loop, which is known for all of them. Where one of its points has no place, the store is found
-/// anew.
+/// An update at some turns of a loop, which is known for all of them. The list has room for the places of its points. Where it has not
+/// enough, or one of the points has no place, the store is found anew.
+fn store_placed<'a>(
+    piece: &'a Piece<'a>,
+    line: &StoreLine<'a>,
+    update: Update,
+    part: Part,
+    places: &mut [usize],
+    symbols: &mut Symbols,
+    state: &mut State,
+) -> Result<(), Stop>
+    requires ready { IsReady piece.now }
+    requires narrow { (k : ℕ) → k < part.count → All (CoordinateIsNarrow (bind (symbols_of symbols.old) part.turns.symbol (part.low +ℤ pos k) (int_le (part.low +ℤ pos k) part.turns.low))) line.now.coordinates.now }
+    requires few { part.count ≤ longest_update }
+    requires high { (part.low +ℤ pos part.count) ≤ℤ pos (2 ^ 63) }
+    requires symbols { length symbols.old.bound < symbols.old.room }
+    requires numbers { length line.now.coordinates.now ≤ state.old.numbers.room }
+    requires point { length line.now.coordinates.now ≤ state.old.point.room }
+    requires stack { indices_of_all line.now.coordinates.now + indices_in (term_of line.now.value.now) ≤ state.old.stack.room }
+    requires code { LineIsCoded piece.now line.now.buffer line.now.definition line.now.coordinates.now (term_of line.now.value.now) }
+    requires finds { FindsUpdate piece.now line.now.buffer (size_in piece.now.sizes.now line.now.buffer) line.now.coordinates.now (term_of line.now.value.now) (symbols_of symbols.old) part.turns.symbol part.turns.low part.low (memory_of state.old.memory) part.count update state.old.registers.items }
+    ensures symbols { OnOk result (symbols.new ≡ symbols.old) }
+    ensures large { OnOk result (IsAsLarge state.old state.new) }
+    ensures run { (definition : ℕ) (cell : List ℕ → List ℤ → ValueFound) → EndsIn state.old.given.room (λ _. progress_of state.new) result (steps (around piece.now cell) (flat_map (store_at piece.now line.now.buffer line.now.coordinates.now (term_of line.now.value.now) (symbols_of symbols.old) part.turns.symbol part.turns.low definition) (rising part.low part.count)) (progress_of state.old)) }
+{
+    let position = match state.memory.position_of(line.buffer) {
+        Some(position) if part.count <= places.len() / LISTS => position,
+        _ => return store_known_part(piece, line, part, symbols, state),
+    };
+    let target = Target {
+        buffer: line.buffer,
+        position,
+        size: size_in(piece.sizes, line.buffer),
+        count: part.count,
+    };
+    let (point, rest) = places.split_at_mut(part.count);
+    let (left, right) = rest.split_at_mut(part.count);
+    match place_update(
+        &state.memory,
+        target,
+        update,
+        &state.registers,
+        point,
+        left,
+        right,
+    ) {
+        Some(()) => {
+            let places = Places {
+                position,
+                point,
+                left,
+                right,
+            };
+            store_turns(piece, line, update, &places, part, symbols, state)
+        }
+        None => store_known_part(piece, line, part, symbols, state),
+    }
+}
+
+/// An update at some turns of a loop, which is known for all of them. The places of its points are put into the state's list for them.
 fn store_update<'a>(
     piece: &'a Piece<'a>,
     line: &StoreLine<'a>,
@@ -464,38 +523,11 @@ fn store_update<'a>(
     ensures large { OnOk result (IsAsLarge state.old state.new) }
     ensures run { (definition : ℕ) (cell : List ℕ → List ℤ → ValueFound) → EndsIn state.old.given.room (λ _. progress_of state.new) result (steps (around piece.now cell) (flat_map (store_at piece.now line.now.buffer line.now.coordinates.now (term_of line.now.value.now) (symbols_of symbols.old) part.turns.symbol part.turns.low definition) (rising part.low part.count)) (progress_of state.old)) }
 {
-    let Some(position) = state.memory.position_of(line.buffer) else {
-        return store_known_part(piece, line, part, symbols, state);
-    };
-    let target = Target {
-        buffer: line.buffer,
-        position,
-        size: size_in(piece.sizes, line.buffer),
-        count: part.count,
-    };
-    let mut point = [0; LONGEST_UPDATE];
-    let mut left = [0; LONGEST_UPDATE];
-    let mut right = [0; LONGEST_UPDATE];
-    match place_update(
-        &state.memory,
-        target,
-        update,
-        &state.registers,
-        &mut point,
-        &mut left,
-        &mut right,
-    ) {
-        Some(()) => {
-            let places = Places {
-                position,
-                point: &point,
-                left: &left,
-                right: &right,
-            };
-            store_turns(piece, line, update, &places, part, symbols, state)
-        }
-        None => store_known_part(piece, line, part, symbols, state),
-    }
+    let alloc = *state.places.allocator();
+    let mut places = replace(&mut state.places, Vec::new(alloc));
+    let done = store_placed(piece, line, update, part, &mut places, symbols, state);
+    state.places = places;
+    done
 }
 
 /// The store at no more turns of a loop than the places of an update have room for.

@@ -1,6 +1,6 @@
 //! Rows: what lies at points that differ in the first coordinate alone.
 
-ghost use Rattle.std.specs.Prelude.{◌≡◌, ◌∷◌, [], ◌<◌, ◌≤◌, ◌≤ℤ◌, ◌+◌, ◌*◌, ◌+ℤ◌, ◌-ℤ◌, ℕ, ℤ, Some, IfSome, length, drop, take, pos, slice_get, slice_index};
+ghost use Rattle.std.specs.Prelude.{◌≡◌, ◌∷◌, [], ◌<◌, ◌≤◌, ◌≤ℤ◌, ◌+◌, ◌*◌, ◌+ℤ◌, ◌-ℤ◌, ℕ, ℤ, Some, IfSome, length, drop, take, pos, slice_get};
 ghost use Rattle.numeric.specs.declared.ty.Ty.{Ty as TyFound};
 ghost use Rattle.numeric.specs.Wrap.{greatest, wrap};
 ghost use Rattle.tree.specs.Meaning.{typed};
@@ -8,10 +8,12 @@ ghost use Rattle.std.specs.Bool.{OnTrue};
 ghost use Rattle.interpreter.specs.Buffers.Marks.{narrow_mark, places_held};
 ghost use Rattle.interpreter.specs.Evaluation.Lanes.{number_at, taken_as};
 ghost use Rattle.interpreter.specs.Evaluation.Words.{bits_at, word_at};
+ghost use Rattle.interpreter.specs.SampleRows.{sampled};
 ghost use Rattle.interpreter.specs.Scanlines.{along, input_at, pixel_along, sample_along};
 
 use crate::buffers::{Held, Mark, held_at, narrow_mark, narrow_type};
 use crate::evaluation::{Number, copy_each};
+use crate::samples::{SampleRow, put_colour, sample_count, sample_of, samples_among};
 use numeric::Ty;
 
 /// Places side by side, the first of which is that of the coordinate `origin`.
@@ -60,10 +62,10 @@ pub(crate) fn window<T>(all: &[T], start: usize, count: usize) -> Option<&[T]>
 /// An image's samples at the points with at most one coordinate behind the first one, from the first sample on.
 pub(crate) fn samples_beside<'a>(
     extents: &[u32],
-    samples: &'a [u16],
+    samples: SampleRow<'a>,
     others: &[i64],
-) -> Option<&'a [u16]>
-    ensures { IfSome result (λ row. (t : TyFound) (z n : ℤ) → sample_along row.now z ≡ Some n → input_at t extents.now samples.now (z ∷ others.now) ≡ Some (typed t n)) }
+) -> Option<SampleRow<'a>>
+    ensures { IfSome result (λ row. (t : TyFound) (z n : ℤ) → sample_along (sampled row) z ≡ Some n → input_at t extents.now (sampled samples.entry) (z ∷ others.now) ≡ Some (typed t n)) }
 {
     match others {
         [] => only_row(extents, samples),
@@ -73,18 +75,18 @@ pub(crate) fn samples_beside<'a>(
 }
 
 /// The samples of an image of one dimension.
-fn only_row<'a>(extents: &[u32], samples: &'a [u16]) -> Option<&'a [u16]>
-    ensures { IfSome result (λ row. (t : TyFound) (z n : ℤ) → sample_along row.now z ≡ Some n → input_at t extents.now samples.now (z ∷ []) ≡ Some (typed t n)) }
+fn only_row<'a>(extents: &[u32], samples: SampleRow<'a>) -> Option<SampleRow<'a>>
+    ensures { IfSome result (λ row. (t : TyFound) (z n : ℤ) → sample_along (sampled row) z ≡ Some n → input_at t extents.now (sampled samples.entry) (z ∷ []) ≡ Some (typed t n)) }
 {
     match extents {
-        [width] => window(samples, 0, *width as usize),
+        [width] => samples_among(samples, 0, *width as usize),
         _ => None,
     }
 }
 
 /// The samples of a row of an image of two dimensions, if there is such a row.
-fn later_row<'a>(extents: &[u32], samples: &'a [u16], row: i64) -> Option<&'a [u16]>
-    ensures { IfSome result (λ w. (t : TyFound) (z n : ℤ) → sample_along w.now z ≡ Some n → input_at t extents.now samples.now (z ∷ row ∷ []) ≡ Some (typed t n)) }
+fn later_row<'a>(extents: &[u32], samples: SampleRow<'a>, row: i64) -> Option<SampleRow<'a>>
+    ensures { IfSome result (λ w. (t : TyFound) (z n : ℤ) → sample_along (sampled w) z ≡ Some n → input_at t extents.now (sampled samples.entry) (z ∷ row ∷ []) ≡ Some (typed t n)) }
 {
     match extents {
         [width, height] => row_among(*width, *height, samples, row),
@@ -93,33 +95,33 @@ fn later_row<'a>(extents: &[u32], samples: &'a [u16], row: i64) -> Option<&'a [u
 }
 
 /// The samples of a row of so many, of which an image has so many, if there is such a row.
-fn row_among(width: u32, height: u32, samples: &[u16], row: i64) -> Option<&[u16]>
-    ensures { IfSome result (λ w. (t : TyFound) (z n : ℤ) → sample_along w.now z ≡ Some n → input_at t (width ∷ height ∷ []) samples.now (z ∷ row ∷ []) ≡ Some (typed t n)) }
+fn row_among(width: u32, height: u32, samples: SampleRow<'_>, row: i64) -> Option<SampleRow<'_>>
+    ensures { IfSome result (λ w. (t : TyFound) (z n : ℤ) → sample_along (sampled w) z ≡ Some n → input_at t (width ∷ height ∷ []) (sampled samples.entry) (z ∷ row ∷ []) ≡ Some (typed t n)) }
 {
     if row < 0 || i64::from(height) <= row {
         return None;
     }
     let width = width as usize;
     let start = (row as usize).checked_mul(width)?;
-    window(samples, start, width)
+    samples_among(samples, start, width)
 }
 
 /// The sample at a place, if there is one.
-fn sample_at(samples: &[u16], place: Number) -> Option<Number>
-    ensures { IfSome result (λ n. sample_along samples.now place.value ≡ Some n.value) }
+fn sample_at(samples: SampleRow<'_>, place: Number) -> Option<Number>
+    ensures { IfSome result (λ n. sample_along (sampled samples.entry) place.value ≡ Some n.value) }
 {
     if place.value < 0 {
         return None;
     }
-    let sample = samples.get(place.value as usize)?;
+    let sample = sample_of(samples, place.value as usize)?;
     Some(Number {
-        value: i64::from(*sample),
+        value: i64::from(sample),
     })
 }
 
 /// The samples at the places that a register has, put into it; nothing where there is none at one of them.
-pub(crate) fn take_samples(samples: &[u16], out: &mut [Number]) -> Option<()>
-    ensures { IfSome result (λ _. (k : ℕ) → k < length out.new → sample_along samples.now (number_at out.old k) ≡ Some (number_at out.new k)) }
+pub(crate) fn take_samples(samples: SampleRow<'_>, out: &mut [Number]) -> Option<()>
+    ensures { IfSome result (λ _. (k : ℕ) → k < length out.new → sample_along (sampled samples.entry) (number_at out.old k) ≡ Some (number_at out.new k)) }
 {
     for turn in 0..out.len() {
         out[turn] = sample_at(samples, out[turn])?;
@@ -130,7 +132,7 @@ pub(crate) fn take_samples(samples: &[u16], out: &mut [Number]) -> Option<()>
 /// The samples of a row of an image of three dimensions, where the third is the colour, and which colour is meant.
 #[derive(Clone, Copy, Drop)]
 pub(crate) struct Pixels<'a> {
-    pub samples: &'a [u16],
+    pub samples: SampleRow<'a>,
     pub colours: usize,
     pub colour: usize,
 }
@@ -138,10 +140,10 @@ pub(crate) struct Pixels<'a> {
 /// An image's samples at the points with two coordinates behind the first one, if it has three dimensions.
 pub(crate) fn pixels_beside<'a>(
     extents: &[u32],
-    samples: &'a [u16],
+    samples: SampleRow<'a>,
     others: &[i64],
 ) -> Option<Pixels<'a>>
-    ensures { IfSome result (λ row. (t : TyFound) (z n : ℤ) → pixel_along row.colours row.colour row.samples.now z ≡ Some n → input_at t extents.now samples.now (z ∷ others.now) ≡ Some (typed t n)) }
+    ensures { IfSome result (λ row. (t : TyFound) (z n : ℤ) → pixel_along row.colours row.colour (sampled row.samples) z ≡ Some n → input_at t extents.now (sampled samples.entry) (z ∷ others.now) ≡ Some (typed t n)) }
 {
     match others {
         [row, colour] => pixels_in(extents, samples, *row, *colour),
@@ -150,8 +152,13 @@ pub(crate) fn pixels_beside<'a>(
 }
 
 /// The samples of a colour in a row of an image of three dimensions, if there are such.
-fn pixels_in<'a>(extents: &[u32], samples: &'a [u16], row: i64, colour: i64) -> Option<Pixels<'a>>
-    ensures { IfSome result (λ p. (t : TyFound) (z n : ℤ) → pixel_along p.colours p.colour p.samples.now z ≡ Some n → input_at t extents.now samples.now (z ∷ row ∷ colour ∷ []) ≡ Some (typed t n)) }
+fn pixels_in<'a>(
+    extents: &[u32],
+    samples: SampleRow<'a>,
+    row: i64,
+    colour: i64,
+) -> Option<Pixels<'a>>
+    ensures { IfSome result (λ p. (t : TyFound) (z n : ℤ) → pixel_along p.colours p.colour (sampled p.samples) z ≡ Some n → input_at t extents.now (sampled samples.entry) (z ∷ row ∷ colour ∷ []) ≡ Some (typed t n)) }
 {
     match extents {
         [width, height, colours] => {
@@ -170,17 +177,17 @@ fn pixels_in<'a>(extents: &[u32], samples: &'a [u16], row: i64, colour: i64) -> 
 fn pixels_among(
     width: u32,
     colours: u32,
-    samples: &[u16],
+    samples: SampleRow<'_>,
     row: usize,
     colour: usize,
 ) -> Option<Pixels<'_>>
     requires { colour < colours }
-    ensures { IfSome result (λ p. (t : TyFound) (h : ℕ) (z n : ℤ) → row < h → pixel_along p.colours p.colour p.samples.now z ≡ Some n → input_at t (width ∷ h ∷ colours ∷ []) samples.now (z ∷ pos row ∷ pos colour ∷ []) ≡ Some (typed t n)) }
+    ensures { IfSome result (λ p. (t : TyFound) (h : ℕ) (z n : ℤ) → row < h → pixel_along p.colours p.colour (sampled p.samples) z ≡ Some n → input_at t (width ∷ h ∷ colours ∷ []) (sampled samples.entry) (z ∷ pos row ∷ pos colour ∷ []) ≡ Some (typed t n)) }
 {
     let colours = colours as usize;
     let count = (width as usize).checked_mul(colours)?;
     let start = row.checked_mul(count)?;
-    let samples = window(samples, start, count)?;
+    let samples = samples_among(samples, start, count)?;
     Some(Pixels {
         samples,
         colours,
@@ -190,22 +197,22 @@ fn pixels_among(
 
 /// The sample of a row's colour at a coordinate, if there is one.
 fn pixel_at(row: Pixels<'_>, place: Number) -> Option<Number>
-    ensures { IfSome result (λ n. pixel_along row.entry.colours row.entry.colour row.entry.samples.now place.value ≡ Some n.value) }
+    ensures { IfSome result (λ n. pixel_along row.entry.colours row.entry.colour (sampled row.entry.samples) place.value ≡ Some n.value) }
 {
     if place.value < 0 {
         return None;
     }
     let first = (place.value as usize).checked_mul(row.colours)?;
-    let sample = row.samples.get(first.checked_add(row.colour)?)?;
+    let sample = sample_of(row.samples, first.checked_add(row.colour)?)?;
     Some(Number {
-        value: i64::from(*sample),
+        value: i64::from(sample),
     })
 }
 
 /// The samples of a row's colour at the coordinates that a register has, put into it; nothing where there is none at one of
 /// them.
 pub(crate) fn take_pixels(row: Pixels<'_>, out: &mut [Number]) -> Option<()>
-    ensures { IfSome result (λ _. (k : ℕ) → k < length out.new → pixel_along row.entry.colours row.entry.colour row.entry.samples.now (number_at out.old k) ≡ Some (number_at out.new k)) }
+    ensures { IfSome result (λ _. (k : ℕ) → k < length out.new → pixel_along row.entry.colours row.entry.colour (sampled row.entry.samples) (number_at out.old k) ≡ Some (number_at out.new k)) }
 {
     for turn in 0..out.len() {
         out[turn] = pixel_at(row, out[turn])?;
@@ -225,14 +232,6 @@ fn greatest_sample(ty: Ty) -> u16
     }
 }
 
-/// A sample as a word.
-#[inline(always)]
-fn sample_word(sample: u16) -> u32
-    ensures { result ≡ sample }
-{
-    u32::from(sample)
-}
-
 /// Whether no word is above this one. All are looked at, so that several are at once.
 fn are_words_at_most(words: &[u32], most: u32) -> bool
     ensures { OnTrue result ((k : ℕ) → k < length words.now → bits_at words.now k ≤ most) }
@@ -246,70 +245,52 @@ fn are_words_at_most(words: &[u32], most: u32) -> bool
 }
 
 /// Whether so many samples are there from a place on, each so many behind the one before.
-fn are_along(samples: &[u16], start: usize, step: usize, count: usize) -> bool
-    ensures { OnTrue result ((k : ℕ) → k < count → start + k * step < length samples.now) }
+fn are_along(samples: SampleRow<'_>, start: usize, step: usize, count: usize) -> bool
+    ensures { OnTrue result ((k : ℕ) → k < count → start + k * step < length (sampled samples.entry)) }
 {
     let Some(last) = count.saturating_sub(1).checked_mul(step) else {
         return false;
     };
     match start.checked_add(last) {
-        Some(last) => last < samples.len(),
+        Some(last) => last < sample_count(samples),
         None => false,
     }
 }
 
-/// Puts samples in as words, from a place on, each so many behind the one before.
-#[inline(always)]
-fn put_along(samples: &[u16], start: usize, step: usize, out: &mut [u32])
-    requires { (k : ℕ) → k < length out.old → start + k * step < length samples.now }
-    ensures { (k : ℕ) → k < length out.new → bits_at out.new k ≡ slice_index samples.now (start + k * step) }
-{
-    for turn in 0..out.len() {
-        out[turn] = sample_word(samples[start + turn * step]);
-    }
-}
-
-/// The same. Samples of three colours, as most images of three dimensions have, take a loop of their own, of which the step is known.
-fn put_colour(samples: &[u16], start: usize, step: usize, out: &mut [u32])
-    requires { (k : ℕ) → k < length out.old → start + k * step < length samples.now }
-    ensures { (k : ℕ) → k < length out.new → bits_at out.new k ≡ slice_index samples.now (start + k * step) }
-{
-    match step {
-        3 => put_along(samples, start, 3, out),
-        _ => put_along(samples, start, step, out),
-    }
-}
-
-/// The samples of a row's colour at coordinates side by side, from one on, put into a register; nothing where there is none at one
-/// of them.
-pub(crate) fn put_pixels(row: Pixels<'_>, first: usize, out: &mut [u32]) -> Option<()>
-    ensures { IfSome result (λ _. (k : ℕ) → k < length out.new → pixel_along row.entry.colours row.entry.colour row.entry.samples.now (pos (first + k)) ≡ Some (pos (bits_at out.new k))) }
+/// The samples of a row's colour at coordinates side by side, from one on, put into a register: a number that none of them is
+/// above. Nothing where there is none at one of the coordinates.
+pub(crate) fn put_pixels(row: Pixels<'_>, first: usize, out: &mut [u32]) -> Option<u32>
+    ensures there { IfSome result (λ _. (k : ℕ) → k < length out.new → pixel_along row.entry.colours row.entry.colour (sampled row.entry.samples) (pos (first + k)) ≡ Some (pos (bits_at out.new k))) }
+    ensures most { IfSome result (λ m. (k : ℕ) → k < length out.new → bits_at out.new k ≤ m) }
 {
     let start = first.checked_mul(row.colours)?.checked_add(row.colour)?;
     if !are_along(row.samples, start, row.colours, out.len()) {
         return None;
     }
-    put_colour(row.samples, start, row.colours, out);
-    Some(())
+    Some(put_colour(row.samples, start, row.colours, out))
 }
 
-/// As many samples, put into a register.
-pub(crate) fn put_samples(samples: &[u16], out: &mut [u32])
-    requires { length samples.now ≡ length out.old }
-    ensures { (k : ℕ) → k < length out.new → bits_at out.new k ≡ slice_index samples.now k }
+/// Whether words are samples of a type, where none is above a number. They are looked at only where that is not enough.
+fn are_samples_of(ty: Ty, most: u32, words: &[u32]) -> bool
+    requires { (k : ℕ) → k < length words.now → bits_at words.now k ≤ most }
+    ensures { OnTrue result ((k : ℕ) → k < length words.now → pos (bits_at words.now k) ≤ℤ greatest ty) }
 {
-    for turn in 0..out.len() {
-        out[turn] = sample_word(samples[turn]);
+    let greatest = u32::from(greatest_sample(ty));
+    if most <= greatest {
+        return true;
     }
+    are_words_at_most(words, greatest)
 }
 
-/// The type of a register's samples, which are cast to a type, or else are of this one: nothing where one of them is not.
-pub(crate) fn sample_type(ty: Ty, cast: Option<Ty>, words: &[u32]) -> Option<Ty>
+/// The type of a register's samples, of which none is above a number, and which are cast to a type, or else are of this one:
+/// nothing where one of them is not.
+pub(crate) fn sample_type(ty: Ty, cast: Option<Ty>, most: u32, words: &[u32]) -> Option<Ty>
+    requires { (k : ℕ) → k < length words.now → bits_at words.now k ≤ most }
     ensures { IfSome result (λ t. (k : ℕ) → k < length words.now → typed t (word_at t words.now k) ≡ taken_as cast (typed ty (pos (bits_at words.now k)))) }
 {
     match cast {
         Some(cast) => Some(cast),
-        None if are_words_at_most(words, u32::from(greatest_sample(ty))) => Some(ty),
+        None if are_samples_of(ty, most, words) => Some(ty),
         None => None,
     }
 }

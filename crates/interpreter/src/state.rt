@@ -7,6 +7,7 @@ use crate::buffers::Buffers;
 use crate::evaluation::Number;
 use crate::given::Given;
 use crate::needs::Needs;
+use crate::placing::LISTS;
 use crate::registers::{LONGEST_RUN, LONGEST_UPDATE};
 use crate::row::Row;
 use std::alloc::{AllocError, Global};
@@ -30,6 +31,8 @@ pub(crate) struct State {
     pub registers: Vec<Number>,
     /// The words of parts of expressions at these turns.
     pub words: Vec<u32>,
+    /// The places of an update's points at these turns, in lists one behind the other.
+    pub places: Vec<usize>,
 }
 
 /// Registers for so many turns of so many parts.
@@ -46,6 +49,13 @@ fn words(alloc: Global, turns: usize, parts: usize) -> Result<Vec<u32>, AllocErr
     Ok(words)
 }
 
+/// Places for so many turns in so many lists.
+fn places(alloc: Global, turns: usize, lists: usize) -> Result<Vec<usize>, AllocError> {
+    let mut places = Vec::new(alloc);
+    places.resize(turns.saturating_mul(lists), 0)?;
+    Ok(places)
+}
+
 impl State {
     /// A state with memory for what is needed, and for so many numbers that are given.
     pub(crate) fn new(alloc: Global, needs: &Needs, given: usize) -> Result<State, AllocError>
@@ -59,6 +69,7 @@ impl State {
             stack: Row::new(alloc, needs.indices)?,
             registers: registers(alloc, LONGEST_UPDATE, PARTS)?,
             words: words(alloc, LONGEST_RUN, PARTS)?,
+            places: places(alloc, LONGEST_UPDATE, LISTS)?,
         })
     }
 }

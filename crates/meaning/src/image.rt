@@ -3,8 +3,10 @@
 mod extents;
 pub mod laws;
 pub mod picture;
+pub mod samples;
 pub mod shape;
 
 pub use numeric::Ty;
 pub use picture::Image;
+pub use samples::Samples;
 pub use shape::Shape;

@@ -11,7 +11,7 @@ ghost use Rattle.plain.specs.Picture.{count_at, sample_at, AllWithin, Extends, G
 use crate::error::PlainError;
 use crate::output::{Output, output_number, sample_at};
 use algo::{Algo, Inputs};
-use meaning::image::Image;
+use meaning::image::{Image, Samples};
 use rayon::prelude::*;
 use std::alloc::Global;
 use std::thread::Threads;
@@ -54,7 +54,7 @@ pub fn image<R: Threads + Sync>(
     Ok(Image {
         ty: shape.ty,
         extents: shape.extents,
-        samples,
+        samples: Samples::Words(samples),
     })
 }
 

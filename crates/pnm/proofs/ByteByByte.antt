@@ -22,6 +22,10 @@ pub record HasRead (w : Wanted) (old new : Option (List ℕ)) (turn : ℕ) (stat
 pub has_read_nothing : (w : Wanted) (old : Option (List ℕ)) → HasRead w old old 0 Start []
 has_read_nothing w old = record { bytes = []; takes = Consumes-nil old; count = refl; leads = refl }
 
+-- another way to say where a walk stands
+pub begins : (s t : State) (a b : List ℕ) → s ≡ t → a ≡ b → Going s a ≡ Going t b
+begins s t a b h g = ap (λ u. Going u a) h ∙ ap (Going t) g
+
 -- one byte more
 walk_more : (w : Wanted) (bytes : List ℕ) (b : ℕ) (s : State) (samples : List ℕ) → walk w bytes ≡ Going s samples → walk w (bytes ++ b ∷ []) ≡ taken (step w s b) samples
 walk_more w bytes b s samples h = fold-append (onward w) (Going Start []) bytes (b ∷ []) ∙ ap (λ p. onward w p b) h

@@ -1,7 +1,8 @@
 -- Reading and writing the samples of a raw raster in parts.
-use Rattle.std.proofs.Common.{◌≡◌, ℕ, zero, suc, ◌+◌, ◌<◌, List, [], ◌∷◌, ◌++◌, length, fold, nat_le, if◌then◌else◌, ◌-◌, true, false, Option, Err, refl, ap, ◌∙◌, arith, inr}
+use Rattle.std.proofs.Common.{◌≡◌, ℕ, zero, suc, ◌+◌, ◌<◌, List, [], ◌∷◌, ◌++◌, length, fold, nat_le, if◌then◌else◌, ◌-◌, true, false, Option, Ok, Err, refl, sym, ap, ◌∙◌, subst, arith, inr, get_or, append-nil, append_assoc, take, drop, take-append-drop}
 use Rattle.std.proofs.lemmas.Bool.Decides.{nat_tests}
 use Rattle.std.proofs.lemmas.Grind.{fold-append}
+use Rattle.std.proofs.lemmas.List.{get_or-drop, length-drop}
 use Rattle.std.specs.Io.KnownBytes.{Consumes, Keeps, IsAtEnd}
 use Rattle.std.proofs.KnownBytes.{Consumes-nil, Consumes-trans}
 use Rattle.pnm.specs.declared.error.PnmError.{PnmError}
@@ -11,7 +12,7 @@ use Rattle.pnm.specs.declared.state.State.{State}
 use Rattle.pnm.specs.declared.state.State.TheVariants.{Start, First, Done}
 use Rattle.pnm.specs.declared.state.Step.TheVariants.{Sample, Fault}
 use Rattle.pnm.specs.declared.state.Wanted.{Wanted}
-use Rattle.pnm.specs.Reading.{after_sample, finish, in_raster, onward, raw_sample, step, taken, walk, with_last, Going}
+use Rattle.pnm.specs.Reading.{after_sample, closed, finish, in_raster, onward, raw_sample, reading, step, taken, walk, with_last, Going}
 use Rattle.pnm.specs.Source.{EndsPart, LeadsOn, ReadsFile, Refuses}
 use Rattle.pnm.proofs.ByteByByte.{HasRead, reads_file, refuses_byte, refuses_device, refuses_end}
 
@@ -32,17 +33,32 @@ raw_one left b samples fits =
 is_byte : (b : ℕ) → b < 256 → nat_le b 255 ≡ true
 is_byte b h = grind (arith, nat_tests)
 
-pub byte_taken : (w : Wanted) (left b : ℕ) (samples : List ℕ) → b < 256 → onward w (Going (in_raster (suc left)) samples) b ≡ Going (in_raster left) (samples ++ b ∷ [])
+byte_taken : (w : Wanted) (left b : ℕ) (samples : List ℕ) → b < 256 → onward w (Going (in_raster (suc left)) samples) b ≡ Going (in_raster left) (samples ++ b ∷ [])
 byte_taken w left b samples h = raw_one left b samples (is_byte b h)
 
--- one byte more of a raster
-pub bytes_more : (w : Wanted) (left now after : ℕ) (old samples : List ℕ) (bytes : List ℕ) (b : ℕ) → b < 256 → now ≡ suc after
-    → fold (onward w) (Going (in_raster left) old) bytes ≡ Going (in_raster now) samples
-    → fold (onward w) (Going (in_raster left) old) (bytes ++ b ∷ []) ≡ Going (in_raster after) (samples ++ b ∷ [])
-bytes_more w left now after old samples bytes b h e g =
-    fold-append (onward w) (Going (in_raster left) old) bytes (b ∷ [])
-    ∙ ap (λ p. onward w p b) (g ∙ ap (λ n. Going (in_raster n) samples) e)
-    ∙ byte_taken w after b samples h
+-- bytes of a raster
+pub bytes_taken : (w : Wanted) (left after : ℕ) (samples bytes : List ℕ) → ((i : ℕ) → get_or bytes i 0 < 256) → after + length bytes ≡ left
+    → fold (onward w) (Going (in_raster left) samples) bytes ≡ Going (in_raster after) (samples ++ bytes)
+bytes_taken w left after samples [] small e =
+    let same : left ≡ after = omega (arith, e) in
+    ap (λ n. Going (in_raster n) samples) same ∙ ap (Going (in_raster after)) (sym (append-nil samples))
+bytes_taken w left after samples (b ∷ bytes) small e =
+    let one : left ≡ suc (after + length bytes) = omega (arith, e) in
+    ap (λ n. fold (onward w) (onward w (Going (in_raster n) samples) b) bytes) one
+    ∙ ap (λ p. fold (onward w) p bytes) (byte_taken w (after + length bytes) b samples (small 0))
+    ∙ bytes_taken w (after + length bytes) after (samples ++ b ∷ []) bytes (λ i. small (suc i)) refl
+    ∙ ap (Going (in_raster after)) (append_assoc samples (b ∷ []) bytes)
+
+-- a raster that ends with the file
+pub whole_read : (w : Wanted) (bytes : List ℕ) (at left : ℕ) (s : State) → ((i : ℕ) → get_or bytes i 0 < 256) → walk w (take at bytes) ≡ Going s [] → s ≡ in_raster left → left ≡ length bytes - at
+    → reading w bytes ≡ Ok (drop at bytes)
+whole_read w bytes at left s small h e last =
+    let fits : (i : ℕ) → get_or (drop at bytes) i 0 < 256 = λ i. subst (λ b. b < 256) (sym (get_or-drop at bytes i 0)) (small (at + i)) in
+    let count : 0 + length (drop at bytes) ≡ left = let long = length-drop at bytes in omega (arith, long, last) in
+    ap (λ bs. closed (walk w bs)) (sym (take-append-drop at bytes))
+    ∙ ap closed (fold-append (onward w) (Going Start []) (take at bytes) (drop at bytes))
+    ∙ ap (λ p. closed (fold (onward w) p (drop at bytes))) (h ∙ ap (λ u. Going u []) e)
+    ∙ ap closed (bytes_taken w left 0 [] (drop at bytes) fits count)
 
 pub leads_nowhere : (old : Option (List ℕ)) (s : State) (samples : List ℕ) → LeadsOn old old s samples s samples
 leads_nowhere old s samples = record { bytes = []; takes = Consumes-nil old; leads = λ w. refl }

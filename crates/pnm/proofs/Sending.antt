@@ -1,11 +1,14 @@
 -- Writing piece by piece.
-use Rattle.std.proofs.Common.{◌≡◌, ℕ, ◌<◌, List, [], ◌∷◌, ◌++◌, length, take, drop, Option, None, Some, Result, Ok, Err, refl, sym, subst, ap, ◌∙◌, arith, append_assoc, append-nil, take-append-drop, ◌-◌}
-use Rattle.std.proofs.lemmas.List.{take_rest}
+use Rattle.std.proofs.Common.{◌≡◌, ℕ, ◌+◌, ◌<◌, List, [], ◌∷◌, ◌++◌, length, take, drop, Option, None, Some, Result, Ok, Err, refl, sym, subst, ap, ◌∙◌, arith, append_assoc, append-nil, take-append-drop, ◌-◌, ◌/◌, ◌%◌, suc, get_or, Bool, true, false, ◌||◌}
+use Rattle.std.proofs.lemmas.List.{take_rest, drop_more, drop-drop}
 use Rattle.std.specs.List.{flat_map}
 use Rattle.std.specs.Io.KnownBytes.{Appends, Keeps}
 use Rattle.std.proofs.KnownBytes.{Appends-nil, Appends-trans}
 use Rattle.pnm.specs.declared.error.PnmError.{PnmError}
+use Rattle.std.proofs.Math.Nat.{mod-eq_of_lt}
+use Rattle.numeric.specs.declared.ty.Ty.TheVariants.{U8, U16}
 use Rattle.pnm.specs.Source.{Sends}
+use Rattle.pnm.specs.Text.{sample_bytes}
 
 -- a beginning of the bytes has gone out, and this is left
 pub record HasSent (old new : Option (List ℕ)) (bytes rest : List ℕ) : Type 0 where
@@ -95,3 +98,37 @@ sends_part f old mid new samples rest n e h g =
     ap (flat_map f) h.whole ∙ flat_map-append f h.done rest
     ∙ ap (λ ys. flat_map f h.done ++ ys) (ap (flat_map f) (sym (take-append-drop n rest)) ∙ flat_map-append f (take n rest) (drop n rest)) in
     subst (λ ys. Sends old new ys (Err e)) (sym parts) all
+
+-- bytes are written as they stand
+pub bytes_stand : (samples : List ℕ) → ((i : ℕ) → get_or samples i 0 < 256) → flat_map (sample_bytes U8) samples ≡ samples
+bytes_stand [] small = refl
+bytes_stand (b ∷ samples) small =
+    ap (λ n. n ∷ flat_map (sample_bytes U8) samples) (mod-eq_of_lt (small 0))
+    ∙ ap (λ bytes. b ∷ bytes) (bytes_stand samples (λ i. small (suc i)))
+
+-- a byte in two
+pub byte_in_two : (b : ℕ) → b < 256 → sample_bytes U16 b ≡ 0 ∷ b ∷ []
+byte_in_two b small =
+    let high : b / 256 ≡ 0 = omega (arith, small) in
+    ap (λ n. n ∷ b % 256 ∷ []) high ∙ ap (λ n. 0 ∷ n ∷ []) (mod-eq_of_lt small)
+
+one_wide : (samples : List ℕ) (i : ℕ) → i < length samples → get_or samples i 0 < 256 → flat_map (sample_bytes U16) (take 1 (drop i samples)) ≡ 0 ∷ get_or samples i 0 ∷ []
+one_wide samples i inside small = ap (λ xs. flat_map (sample_bytes U16) (take 1 xs)) (drop_more samples i 0 inside) ∙ byte_in_two (get_or samples i 0) small
+
+-- the samples up to a place have gone out, and the one at it
+pub has_sent_wide : (old mid new : Option (List ℕ)) (samples : List ℕ) (i : ℕ) → i < length samples → get_or samples i 0 < 256 → HasSentSamples (sample_bytes U16) old mid samples (drop i samples)
+    → Appends mid new (0 ∷ get_or samples i 0 ∷ []) → HasSentSamples (sample_bytes U16) old new samples (drop (i + 1) samples)
+has_sent_wide old mid new samples i inside small h g =
+    let part = has_sent_part (sample_bytes U16) old mid new samples (drop i samples) 1 h (subst (Appends mid new) (sym (one_wide samples i inside small)) g) in
+    subst (HasSentSamples (sample_bytes U16) old new samples) (drop-drop 1 i samples) part
+
+-- the samples up to a place have gone out, and the one at it fails
+pub sends_wide : (old mid new : Option (List ℕ)) (samples : List ℕ) (i : ℕ) (e : PnmError) → i < length samples → get_or samples i 0 < 256 → HasSentSamples (sample_bytes U16) old mid samples (drop i samples)
+    → Sends mid new (0 ∷ get_or samples i 0 ∷ []) (Err e) → Sends old new (flat_map (sample_bytes U16) samples) (Err e)
+sends_wide old mid new samples i e inside small h g =
+    sends_part (sample_bytes U16) old mid new samples (drop i samples) 1 e h (subst (λ bytes. Sends mid new bytes (Err e)) (sym (one_wide samples i inside small)) g)
+
+-- what was sent changes nothing
+pub still_so : (first before after : Bool) → after ≡ (before || false) → before ≡ first → after ≡ first
+still_so first true after h g = h ∙ g
+still_so first false after h g = h ∙ g

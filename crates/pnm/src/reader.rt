@@ -1,8 +1,8 @@
 //! Reading a file.
 
-ghost use Rattle.std.specs.Prelude.{◌≡◌, ◌⊎◌, ◌↔◌, ◌<◌, ◌≤◌, ◌+◌, ℕ, List, Option, true, false, fold, length, Ok, Err, MatchResult, IsErrOf, IfOk, IfErr, IfSome, OnErr, OnOk, vec_capacity};
+ghost use Rattle.std.specs.Prelude.{◌≡◌, ◌⊎◌, ◌↔◌, ◌<◌, ◌≤◌, ◌+◌, ◌++◌, [], ℕ, List, Option, true, false, fold, length, Ok, Err, MatchResult, IsErrOf, IfOk, IfErr, IfSome, OnErr, OnOk, vec_capacity};
 ghost use Rattle.std.specs.Io.KnownBytes.{Consumes, Keeps};
-ghost use Rattle.meaning.specs.Image.View.{image_of, shape_of, IsShape};
+ghost use Rattle.meaning.specs.Image.View.{image_of, numbers, shape_of, IsShape};
 ghost use Rattle.pnm.specs.declared.state.Wanted.{Wanted as WantedImage};
 ghost use Rattle.pnm.specs.Reading.{step, finish, in_raster, onward, taken, walk, with_last, Going, Stopped, wanted_of};
 ghost use Rattle.pnm.specs.Source.{EndsPart, LeadsOn, ReadsFile, Refuses, IsEndless};
@@ -12,7 +12,7 @@ use crate::header::wanted;
 use crate::state::{State, Step, Wanted};
 use crate::stepping::{finish, step};
 use crate::watched::{Source, Watched};
-use meaning::image::{Image, Shape};
+use meaning::image::{Image, Samples, Shape};
 use std::alloc::Global;
 use std::io::Read;
 
@@ -53,29 +53,29 @@ fn take_end(samples: &mut Vec<u16>, state: State) -> Result<(), PnmError>
     }
 }
 
-/// How many samples are still to come, where the next byte is one of a raw raster in which each byte is a sample.
-fn bytes_left(state: State) -> Option<usize>
-    ensures { IfSome result (λ left. (state ≡ in_raster left) × (0 < left)) }
+/// How many samples are to come, where none was read before and the next byte is one of a raw raster in which each byte is a sample.
+pub(crate) fn bytes_to_come(samples: &[u16], state: State) -> Option<usize>
+    ensures { IfSome result (λ count. (state ≡ in_raster count) × (samples.now ≡ [])) }
 {
     match state {
-        State::First { max: 255, left } if left > 0 => Some(left),
+        State::First { max: 255, left } if left > 0 && samples.is_empty() => Some(left),
         _ => None,
     }
 }
 
 /// Takes bytes of a raw raster in which each is a sample, where so many samples are still to come and have room: how many are left.
-#[tactic(auto, using(crate::proofs::InParts::bytes_more))]
-fn take_bytes(samples: &mut Vec<u16>, left: usize, bytes: &[u8]) -> usize
+#[tactic(auto, using(crate::proofs::InParts::bytes_taken))]
+fn take_bytes(samples: &mut Vec<u8>, left: usize, bytes: &[u8]) -> usize
     requires few { length bytes.now ≤ left }
     requires room { length samples.old.items + left ≤ vec_capacity samples.old }
     ensures leads { (w : WantedImage) → fold (onward w) (Going (in_raster left) samples.old.items) bytes.now ≡ Going (in_raster result) samples.new.items }
     ensures left { result + length bytes.now ≡ left }
     ensures room { length samples.new.items + result ≤ vec_capacity samples.new }
 {
-    for byte in bytes {
-        samples.push_reserved(u16::from(*byte));
+    match samples.extend_from_slice(bytes) {
+        Ok(()) => left - bytes.len(),
+        Err(_) => unreachable!(),
     }
-    left - bytes.len()
 }
 
 // So many bytes of a raw raster are read together.
@@ -86,7 +86,7 @@ const TOGETHER: usize = 4096;
 #[tactic(auto, using(crate::proofs::InParts::leads_on, crate::proofs::InParts::fewer_left))]
 fn read_part<S: Source>(
     source: &mut S,
-    samples: &mut Vec<u16>,
+    samples: &mut Vec<u8>,
     left: usize,
     bytes: &mut [u8],
 ) -> Result<usize, PnmError>
@@ -115,12 +115,12 @@ fn read_part<S: Source>(
 #[tactic(auto, using(crate::proofs::InParts::leads_nowhere, crate::proofs::InParts::leads_further, crate::proofs::InParts::raster_file, crate::proofs::InParts::raster_trails, crate::proofs::InParts::raster_fails, crate::proofs::InParts::raster_ends))]
 fn read_reserved<S: Source>(
     source: &mut S,
-    mut samples: Vec<u16>,
+    mut samples: Vec<u8>,
     mut left: usize,
-) -> Result<Vec<u16>, PnmError>
+) -> Result<Samples, PnmError>
     requires room { length samples.items + left ≤ vec_capacity samples }
     requires fresh { S.has_failed source.old ≡ false }
-    ensures file { (w : WantedImage) (before : Option (List ℕ)) (bytes : List ℕ) → Consumes before (S.remaining source.old) bytes → walk w bytes ≡ Going (in_raster left) samples.items → IfOk result (λ all. ReadsFile w before (S.remaining source.new) all.items) }
+    ensures file { (w : WantedImage) (before : Option (List ℕ)) (bytes : List ℕ) → Consumes before (S.remaining source.old) bytes → walk w bytes ≡ Going (in_raster left) samples.items → IfOk result (λ all. ReadsFile w before (S.remaining source.new) (numbers all)) }
     ensures refusal { (w : WantedImage) (before : Option (List ℕ)) (bytes : List ℕ) → Consumes before (S.remaining source.old) bytes → walk w bytes ≡ Going (in_raster left) samples.items → IfErr result (λ e. Refuses w before (S.remaining source.new) e) }
     ensures failed { S.has_failed source.new ≡ true → IsErrOf result PnmError.Device }
     ensures device { IsErrOf result PnmError.Device → S.has_failed source.new ≡ true }
@@ -134,40 +134,36 @@ fn read_reserved<S: Source>(
         }
     }
     match source.next_byte() {
-        Ok(None) => Ok(samples),
+        Ok(None) => Ok(Samples::Bytes(samples)),
         Ok(Some(_)) => Err(PnmError::Trailing),
         Err(e) => Err(e),
     }
 }
 
-/// Reads the samples of a raw raster in which each byte is one, of which so many are still to come, and the end of the file. Memory
-/// is taken for those that have no room yet.
-fn read_bytes<S: Source>(
-    source: &mut S,
-    mut samples: Vec<u16>,
-    left: usize,
-) -> Result<Vec<u16>, PnmError>
+/// Reads the samples of a raw raster in which each byte is one, and the end of the file. Memory is taken before the first of them.
+fn read_bytes<S: Source>(alloc: Global, source: &mut S, count: usize) -> Result<Samples, PnmError>
     requires fresh { S.has_failed source.old ≡ false }
-    ensures file { (w : WantedImage) (before : Option (List ℕ)) (bytes : List ℕ) → Consumes before (S.remaining source.old) bytes → walk w bytes ≡ Going (in_raster left) samples.items → IfOk result (λ all. ReadsFile w before (S.remaining source.new) all.items) }
-    ensures refusal { (w : WantedImage) (before : Option (List ℕ)) (bytes : List ℕ) → Consumes before (S.remaining source.old) bytes → walk w bytes ≡ Going (in_raster left) samples.items → IfErr result (λ e. Refuses w before (S.remaining source.new) e) }
+    ensures file { (w : WantedImage) (before : Option (List ℕ)) (bytes : List ℕ) → Consumes before (S.remaining source.old) bytes → walk w bytes ≡ Going (in_raster count) [] → IfOk result (λ all. ReadsFile w before (S.remaining source.new) (numbers all)) }
+    ensures refusal { (w : WantedImage) (before : Option (List ℕ)) (bytes : List ℕ) → Consumes before (S.remaining source.old) bytes → walk w bytes ≡ Going (in_raster count) [] → IfErr result (λ e. Refuses w before (S.remaining source.new) e) }
     ensures failed { S.has_failed source.new ≡ true → IsErrOf result PnmError.Device }
     ensures device { IsErrOf result PnmError.Device → S.has_failed source.new ≡ true }
     ensures same { S.identity source.new ≡ S.identity source.old }
 {
-    match samples.reserve(left) {
-        Ok(()) => read_reserved(source, samples, left),
+    match Vec::with_capacity(alloc, count) {
+        Ok(samples) => read_reserved(source, samples, count),
         Err(_) => Err(PnmError::Memory),
     }
 }
 
-/// Reads the samples of a wanted image. Memory is taken once, before the first byte.
+/// Reads the samples of a wanted image. Memory is taken once, before the first byte; for a raw raster in which each byte is a sample it
+/// is given back untouched, and half as much is taken before that raster.
 fn read_samples<S: Source>(
     alloc: Global,
     source: &mut S,
     wanted: &Wanted,
-) -> Result<Vec<u16>, PnmError>
+) -> Result<Samples, PnmError>
     requires { S.has_failed source.old ≡ false }
-    ensures file { IfOk result (λ samples. ReadsFile wanted.now (S.remaining source.old) (S.remaining source.new) samples.items) }
+    ensures file { IfOk result (λ samples. ReadsFile wanted.now (S.remaining source.old) (S.remaining source.new) (numbers samples)) }
     ensures refusal { IfErr result (λ e. Refuses wanted.now (S.remaining source.old) (S.remaining source.new) e) }
     ensures failed { S.has_failed source.new ≡ true → IsErrOf result PnmError.Device }
     ensures device { IsErrOf result PnmError.Device → (S.has_failed source.new ≡ true) ⊎ IsEndless (S.remaining source.old) (S.remaining source.new) }
@@ -179,8 +175,9 @@ fn read_samples<S: Source>(
     };
     let mut state = State::Start;
     for turn in 0..u64::MAX {
-        if let Some(left) = bytes_left(state) {
-            return read_bytes(source, samples, left);
+        if let Some(count) = bytes_to_come(samples.as_slice(), state) {
+            drop(samples);
+            return read_bytes(alloc, source, count);
         }
         match source.next_byte() {
             Ok(Some(byte)) => match take_byte(&mut samples, wanted, state, byte) {
@@ -189,7 +186,7 @@ fn read_samples<S: Source>(
             },
             Ok(None) => {
                 return match take_end(&mut samples, state) {
-                    Ok(()) => Ok(samples),
+                    Ok(()) => Ok(Samples::Words(samples)),
                     Err(e) => Err(e),
                 };
             }
@@ -203,7 +200,7 @@ fn read_samples<S: Source>(
 pub fn read_from<S: Source>(alloc: Global, source: &mut S, shape: &Shape) -> Result<Image, PnmError>
     requires shape { IsShape (shape_of shape.now) }
     requires fresh { S.has_failed source.old ≡ false }
-    ensures file { IfOk result (λ image. ReadsFile (wanted_of (shape_of shape.now)) (S.remaining source.old) (S.remaining source.new) image.samples.items) }
+    ensures file { IfOk result (λ image. ReadsFile (wanted_of (shape_of shape.now)) (S.remaining source.old) (S.remaining source.new) (numbers image.samples)) }
     ensures like { IfOk result (λ image. (image.ty ≡ shape.now.ty) × (image.extents.items ≡ shape.now.extents.items)) }
     ensures refusal { IfErr result (λ e. Refuses (wanted_of (shape_of shape.now)) (S.remaining source.old) (S.remaining source.new) e) }
     ensures failed { S.has_failed source.new ≡ true → IsErrOf result PnmError.Device }
@@ -229,7 +226,7 @@ pub fn read_from<S: Source>(alloc: Global, source: &mut S, shape: &Shape) -> Res
 /// that fails is not tried again.
 pub fn read<R: Read>(alloc: Global, reader: &mut R, shape: &Shape) -> Result<Image, PnmError>
     requires { IsShape (shape_of shape.now) }
-    ensures file { IfOk result (λ image. ReadsFile (wanted_of (shape_of shape.now)) (R.remaining reader.old) (R.remaining reader.new) image.samples.items) }
+    ensures file { IfOk result (λ image. ReadsFile (wanted_of (shape_of shape.now)) (R.remaining reader.old) (R.remaining reader.new) (numbers image.samples)) }
     ensures like { IfOk result (λ image. (image.ty ≡ shape.now.ty) × (image.extents.items ≡ shape.now.extents.items)) }
     ensures refusal { IfErr result (λ e. Refuses (wanted_of (shape_of shape.now)) (R.remaining reader.old) (R.remaining reader.new) e) }
 {

@@ -2,14 +2,14 @@
 
 ghost use Rattle.std.specs.Prelude.{◌≡◌, ◌≤◌, ◌+◌, ◌*◌, [], ◌∷◌, ◌++◌, false, true, decimal, ◌||◌, is_err, length, take};
 ghost use Rattle.std.specs.List.{flat_map};
-ghost use Rattle.meaning.specs.Image.View.{image_of};
+ghost use Rattle.meaning.specs.Image.View.{image_of, numbers as numbers_kept};
 ghost use Rattle.pnm.specs.Source.{Sends};
 ghost use Rattle.pnm.specs.Text.{magic, numbers, sample_bytes, text_of};
 
 use crate::error::PnmError;
 use crate::header::{has_colours, height_of, max_sample, width_of};
 use crate::watched::{Sink, Watched};
-use meaning::image::{Image, Ty};
+use meaning::image::{Image, Samples, Ty};
 use std::io::Write;
 
 fn send_number<S: Sink>(sink: &mut S, number: u32, after: u8) -> Result<(), PnmError>
@@ -93,8 +93,9 @@ fn send_numbers<S: Sink>(sink: &mut S, ty: Ty, extents: &[u32]) -> Result<(), Pn
     send_number(sink, max_sample(ty), b'\n')
 }
 
+/// Sends samples that are kept in two bytes, some of them together.
 #[tactic(auto, using(crate::proofs::Sending::has_sent_no_sample, crate::proofs::Sending::has_sent_part, crate::proofs::Sending::sends_samples, crate::proofs::Sending::sends_part, crate::proofs::Sending::sends_failed))]
-fn send_raster<S: Sink>(sink: &mut S, ty: Ty, samples: &[u16]) -> Result<(), PnmError>
+fn send_words<S: Sink>(sink: &mut S, ty: Ty, samples: &[u16]) -> Result<(), PnmError>
     ensures bytes { Sends (S.contents sink.old) (S.contents sink.new) (flat_map (sample_bytes ty) samples.now) result }
     ensures failure { S.has_failed sink.new ≡ (S.has_failed sink.old || is_err result) }
     ensures same { S.identity sink.new ≡ S.identity sink.old }
@@ -109,6 +110,41 @@ fn send_raster<S: Sink>(sink: &mut S, ty: Ty, samples: &[u16]) -> Result<(), Pnm
     Ok(())
 }
 
+/// Sends samples that are kept in one byte, each of them in one.
+fn send_narrow<S: Sink>(sink: &mut S, samples: &[u8]) -> Result<(), PnmError>
+    ensures bytes { Sends (S.contents sink.old) (S.contents sink.new) (flat_map (sample_bytes Ty.U8) samples.now) result }
+    ensures failure { S.has_failed sink.new ≡ (S.has_failed sink.old || is_err result) }
+    ensures same { S.identity sink.new ≡ S.identity sink.old }
+{
+    sink.send(samples)
+}
+
+/// Sends samples that are kept in one byte, each of them in two.
+#[tactic(auto, using(crate::proofs::Sending::has_sent_no_sample, crate::proofs::Sending::sends_samples))]
+fn send_wide<S: Sink>(sink: &mut S, samples: &[u8]) -> Result<(), PnmError>
+    ensures bytes { Sends (S.contents sink.old) (S.contents sink.new) (flat_map (sample_bytes Ty.U16) samples.now) result }
+    ensures failure { S.has_failed sink.new ≡ (S.has_failed sink.old || is_err result) }
+    ensures same { S.identity sink.new ≡ S.identity sink.old }
+{
+    for sample in samples {
+        sink.send(&[0, *sample])?;
+    }
+    Ok(())
+}
+
+/// Sends all samples of an image.
+fn send_raster<S: Sink>(sink: &mut S, ty: Ty, samples: &Samples) -> Result<(), PnmError>
+    ensures bytes { Sends (S.contents sink.old) (S.contents sink.new) (flat_map (sample_bytes ty) (numbers_kept samples.now)) result }
+    ensures failure { S.has_failed sink.new ≡ (S.has_failed sink.old || is_err result) }
+    ensures same { S.identity sink.new ≡ S.identity sink.old }
+{
+    match (ty, samples) {
+        (_, Samples::Words(words)) => send_words(sink, ty, words.as_slice()),
+        (Ty::U8, Samples::Bytes(bytes)) => send_narrow(sink, bytes.as_slice()),
+        (_, Samples::Bytes(bytes)) => send_wide(sink, bytes.as_slice()),
+    }
+}
+
 /// Writes an image as a raw file to a sink that remembers whether it has failed.
 pub fn write_to<S: Sink>(sink: &mut S, image: &Image) -> Result<(), PnmError>
     ensures bytes { Sends (S.contents sink.old) (S.contents sink.new) (text_of (image_of image.now)) result }
@@ -118,7 +154,7 @@ pub fn write_to<S: Sink>(sink: &mut S, image: &Image) -> Result<(), PnmError>
     let extents = image.extents.as_slice();
     sink.send(magic_of(has_colours(extents)))?;
     send_numbers(sink, image.ty, extents)?;
-    send_raster(sink, image.ty, image.samples.as_slice())
+    send_raster(sink, image.ty, &image.samples)
 }
 
 /// Writes an image as a raw file: `P5`, or `P6` where it has colours. It takes no memory.

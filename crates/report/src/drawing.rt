@@ -11,7 +11,7 @@ mod colours;
 use crate::drawing::canvas::Canvas;
 use crate::drawing::colours::{Colour, GREY, colour_of, colours_of};
 use checked_plan::Checked;
-use meaning::image::Image;
+use meaning::image::{Image, Samples};
 use numeric::Ty;
 use std::alloc::{AllocError, Global};
 
@@ -43,19 +43,19 @@ fn colour_at(
 }
 
 /// Adds a pixel: its red, green and blue.
-fn put_colour(samples: &mut Vec<u16>, colour: Colour) -> Result<(), AllocError>
+fn put_colour(samples: &mut Vec<u8>, colour: Colour) -> Result<(), AllocError>
     ensures count { OnOk result (length samples.new.items ≡ length samples.old.items + 3) }
     ensures range { OnOk result (All (λ n. n ≤ 255) samples.old.items → All (λ n. n ≤ 255) samples.new.items) }
 {
-    samples.push(u16::from(colour.red))?;
-    samples.push(u16::from(colour.green))?;
-    samples.push(u16::from(colour.blue))?;
+    samples.push(colour.red)?;
+    samples.push(colour.green)?;
+    samples.push(colour.blue)?;
     Ok(())
 }
 
 /// Adds the pixels of a row.
 fn put_row(
-    samples: &mut Vec<u16>,
+    samples: &mut Vec<u8>,
     canvas: &Canvas<'_>,
     colours: &[Option<usize>],
     crew: Option<Cells<'_>>,
@@ -92,6 +92,6 @@ pub fn draw(
     Ok(Image {
         ty: Ty::U8,
         extents: vec![in alloc; canvas.width, canvas.height, 3]?,
-        samples,
+        samples: Samples::Bytes(samples),
     })
 }

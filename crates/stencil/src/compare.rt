@@ -3,7 +3,7 @@
 ghost use Rattle.std.specs.Prelude.{◌≡◌, ◌⊎◌, ◌^◌, ℕ, All, IfErr, IfOk, OnOk, false, map, true};
 ghost use Rattle.algo.specs.View.{algorithm_of, picture_said, samples_of, IsFor};
 ghost use Rattle.checked_plan.specs.View.{algorithm_checked};
-ghost use Rattle.meaning.specs.Image.View.{image_of};
+ghost use Rattle.meaning.specs.Image.View.{image_of, numbers};
 ghost use Rattle.stencil.specs.declared.compare.Comparison.{Comparison};
 ghost use Rattle.commands.specs.Asked.{compare_asked};
 ghost use Rattle.stencil.specs.Compares.{IsCompared, IsCompareRefused, IsFirstDifference, IsLegalFile, IsRefusedAmong, IsUnplanned};
@@ -18,7 +18,7 @@ use checked_plan::Checked;
 use commands::pipeline::{BUDGET, Fault, plain_picture, plan_picture};
 use commands::plan_command::costs_told;
 use commands::{CompareRequest, Files, algorithm_file, flush, image_file};
-use meaning::image::Image;
+use meaning::image::{Image, Samples};
 use pnm::PnmError;
 use std::alloc::Global;
 use std::io::Write;
@@ -41,15 +41,16 @@ struct Baseline<'a> {
     picture: &'a Image,
 }
 
-fn compared(plain: &[u16], picture: &[u16]) -> Comparison
-    ensures same { result ≡ Comparison.Same → plain.now ≡ picture.now }
-    ensures differs { (place : ℕ) → result ≡ Comparison.DiffersAt place → IsFirstDifference place plain.now picture.now }
+fn compared(plain: &Samples, picture: &Samples) -> Comparison
+    ensures same { result ≡ Comparison.Same → numbers plain.now ≡ numbers picture.now }
+    ensures differs { (place : ℕ) → result ≡ Comparison.DiffersAt place → IsFirstDifference place (numbers plain.now) (numbers picture.now) }
 {
+    let (all, found) = (plain.len(), picture.len());
     let mut place = 0;
-    while place < plain.len() && place < picture.len() && plain[place] == picture[place] {
+    while place < all && place < found && plain.at(place) == picture.at(place) {
         place += 1;
     }
-    if place == plain.len() && place == picture.len() {
+    if place == all && place == found {
         Comparison::Same
     } else {
         Comparison::DiffersAt(place)
@@ -118,10 +119,7 @@ fn compare_checked<F: Files, W: Write>(
 {
     let costs = costs_told(alloc, checked)?;
     let image = picture_watched(alloc, files, checked, baseline.inputs)?;
-    let comparison = compared(
-        baseline.picture.samples.as_slice(),
-        image.samples.as_slice(),
-    );
+    let comparison = compared(&baseline.picture.samples, &image.samples);
     tell(out, name, comparison, costs.as_str())?;
     Ok(comparison)
 }

@@ -19,7 +19,7 @@ use algo::Inputs;
 use checked_plan::Checked;
 use checked_plan::output::PlanCells;
 use headline::laws::inputs_are_samples;
-use meaning::image::Image;
+use meaning::image::{Image, Samples};
 use std::alloc::{AllocError, Global};
 
 /// The workers' state after an order of steps: each entry is one step of the worker of that number, 0 to 63.
@@ -75,6 +75,6 @@ pub fn picture(alloc: Global, checked: &Checked<'_>, inputs: &Inputs) -> Result<
     Ok(Image {
         ty: shape.ty,
         extents: shape.extents,
-        samples,
+        samples: Samples::Words(samples),
     })
 }

@@ -10,7 +10,7 @@ use tree::token::Span;
 use tree::{Cond, Expr};
 
 /// The place of a call, and of its name.
-#[derive(Clone, Copy, Debug, PartialEq, Eq, Drop)]
+#[derive(Clone, Copy, Drop)]
 pub struct CallPlace {
     /// The whole call, with its indices.
     pub call: Span,

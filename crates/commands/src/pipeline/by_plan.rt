@@ -49,7 +49,7 @@ pub fn check_plan<'a, T: Threads + Sync>(
 }
 
 /// The picture, on a board for this checked plan and this input.
-fn picture_on<J: Run, G: Gate>(
+pub(crate) fn picture_on<J: Run, G: Gate>(
     alloc: Global,
     checked: &Checked<'_>,
     inputs: &Inputs,

@@ -1,11 +1,12 @@
 //! An algorithm's text and an image file, read.
 
-ghost use Rattle.std.specs.Prelude.{◌≡◌, ◌⊎◌, true, false, IfErr, IfOk, IsErrOf};
+ghost use Rattle.std.specs.Prelude.{◌≡◌, ◌⊎◌, true, false, Ok, IfErr, IfOk, IsErrOf};
 ghost use Rattle.algo.specs.Parts.{input_frame};
 ghost use Rattle.algo.specs.Refusal.{IsAlgorithmText};
 ghost use Rattle.algo.specs.View.{algorithm_of, samples_of, IsFor};
 ghost use Rattle.pnm.specs.declared.error.PnmError.TheVariants.{Device};
-ghost use Rattle.pnm.specs.Reading.{wanted_of};
+ghost use Rattle.pnm.specs.Reading.{reading, wanted_of};
+ghost use Rattle.commands.specs.Pictures.{IsImageFault};
 ghost use Rattle.pnm.specs.Source.{IsEndless, ReadsFile};
 ghost use Rattle.commands.specs.declared.pipeline.fault.Fault.{Fault as FaultOf};
 ghost use Rattle.commands.specs.Pipeline.Texts.{IsImageRefused, IsTextRefused};
@@ -13,9 +14,8 @@ ghost use Rattle.commands.specs.Pipeline.Texts.{IsImageRefused, IsTextRefused};
 use crate::pipeline::fault::Fault;
 use crate::pipeline::laws::read_images_fit;
 use algo::{Algo, Inputs};
-use pnm::{Source, Watched, read_from};
+use pnm::{Source, read_from, read_whole};
 use std::alloc::Global;
-use std::io::Read;
 
 /// Reads an algorithm's text.
 ///
@@ -50,22 +50,19 @@ pub(crate) fn inputs_from<S: Source>(
     }
 }
 
-/// Reads an image file as the input of an algorithm, and the end of the file after it.
+/// Reads all the bytes of an image file as the input of an algorithm, which keeps their memory where it can.
 ///
 /// # Errors
-/// `Image` with the file's first fault, or where the reader fails; `Memory` where memory runs out.
-pub fn read_inputs<R: Read>(alloc: Global, algo: &Algo, input: &mut R) -> Result<Inputs, Fault>
+/// `Image` with the file's first fault, and `Memory` where memory runs out.
+pub fn read_image(alloc: Global, algo: &Algo, bytes: Vec<u8>) -> Result<Inputs, Fault>
     ensures fits { IfOk result (λ inputs. IsFor algo.now inputs) }
-    ensures file { IfOk result (λ inputs. ReadsFile (wanted_of (input_frame (algorithm_of algo.now))) (R.remaining input.old) (R.remaining input.new) (samples_of inputs)) }
-    ensures refused { IfErr result (IsImageRefused (input_frame (algorithm_of algo.now)) (R.remaining input.old) (R.remaining input.new)) }
+    ensures read { IfOk result (λ inputs. reading (wanted_of (input_frame (algorithm_of algo.now))) bytes.items ≡ Ok (samples_of inputs)) }
+    ensures refused { IfErr result (IsImageFault (input_frame (algorithm_of algo.now)) bytes.items) }
 {
-    let mut source = Watched {
-        device: input,
-        failed: false,
-    };
-    let result = inputs_from(alloc, algo, &mut source);
-    let Watched { device, failed: _ } = source;
-    // The proof reads here what the reader has left.
-    let _ = &*device;
-    result
+    read_images_fit();
+    let image = read_whole(alloc, bytes, &algo.input().shape)?;
+    match Inputs::new(algo, image) {
+        Ok(inputs) => Ok(inputs),
+        Err(_) => unreachable!(),
+    }
 }

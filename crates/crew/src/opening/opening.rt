@@ -39,8 +39,8 @@ pub fn open<'a, J: Run>(
 
 /// The cells of a checked plan on an input of its algorithm, for one worker alone. Nothing is put.
 ///
-/// It takes 4 bytes for each cell that is not kept as a sample of the picture, 8 for each piece, and for the picture what a board
-/// takes for it.
+/// It takes one byte for each cell that is kept as a sample of the picture, 4 for each other cell, and 8 for each piece. Where no
+/// cell is kept as a sample it takes for the picture what a board takes for it.
 ///
 /// # Errors
 /// `AllocError` where memory runs out.

@@ -1,12 +1,13 @@
 //! Operands that repeat another one.
 
 ghost use Rattle.std.specs.Prelude.{◌≡◌, IfSome, IsTrue};
-ghost use Rattle.tree.specs.Term.{term_of, Minus};
+ghost use Rattle.numeric.specs.declared.op.Op.TheVariants.{Sub};
+ghost use Rattle.tree.specs.Term.{term_of, Binary, Minus, Number};
 ghost use Rattle.interpreter.specs.Evaluation.Repeats.{repeated};
 
 use meaning::sameness::same_expr;
 use numeric::Op;
-use tree::Expr;
+use tree::{Expr, Value};
 
 /// How an operator's second operand repeats its first.
 #[derive(Clone, Copy, Drop)]
@@ -15,6 +16,8 @@ pub(crate) enum Repeat {
     Same,
     /// It is the negation of that.
     Opposite,
+    /// It is this value less that.
+    Complement(Value),
 }
 
 /// Whether an expression is the negation of another. A yes is sure.
@@ -27,6 +30,34 @@ fn is_opposite(left: &Expr, right: &Expr) -> bool
     }
 }
 
+/// The value that an expression is, if it is a literal.
+fn literal_of(expr: &Expr) -> Option<Value>
+    ensures { IfSome result (λ v. Number v.ty v.number ≡ term_of expr.now) }
+{
+    match expr {
+        Expr::Literal { ty, number, .. } => Some(Value {
+            ty: *ty,
+            number: *number,
+        }),
+        _ => None,
+    }
+}
+
+/// The value that an expression takes another one from, if it is such a difference.
+fn complement_of(left: &Expr, right: &Expr) -> Option<Value>
+    ensures { IfSome result (λ v. Binary Sub (Number v.ty v.number) (term_of left.now) ≡ term_of right.now) }
+{
+    match right {
+        Expr::Binary {
+            op: Op::Sub,
+            left: first,
+            right: second,
+            ..
+        } if same_expr(left, second) => literal_of(first),
+        _ => None,
+    }
+}
+
 /// Whether an operator makes a square, as `d * d`. A yes is sure.
 fn is_square(op: Op, left: &Expr, right: &Expr) -> bool
     ensures { IsTrue result → term_of left.now ≡ term_of right.now }
@@ -34,8 +65,8 @@ fn is_square(op: Op, left: &Expr, right: &Expr) -> bool
     op == Op::Mul && same_expr(left, right)
 }
 
-/// How the second operand of an operator repeats the first, if it is seen to: a factor that is the other one, or a negation, as in
-/// `max(d, -d)`.
+/// How the second operand of an operator repeats the first, if it is seen to: a factor that is the other one, a negation, as in
+/// `max(d, -d)`, or a literal less it, as in `v * (510 - v)`.
 pub(crate) fn repeat_of(op: Op, left: &Expr, right: &Expr) -> Option<Repeat>
     ensures { IfSome result (λ r. repeated r (term_of left.now) ≡ term_of right.now) }
 {
@@ -45,5 +76,6 @@ pub(crate) fn repeat_of(op: Op, left: &Expr, right: &Expr) -> Option<Repeat>
     if is_square(op, left, right) {
         return Some(Repeat::Same);
     }
-    None
+    let value = complement_of(left, right)?;
+    Some(Repeat::Complement(value))
 }

@@ -74,6 +74,15 @@ pub(crate) fn apply_residues_by<O: ResidueOperator>(out: &mut [u32], right: Numb
     }
 }
 
+/// The operator on one number and each word.
+pub(crate) fn apply_residues_from<O: ResidueOperator>(left: Number, out: &mut [u32])
+    ensures { (t : TyFound) (k : ℕ) → k < length out.new → word_at t out.new k ≡ apply O.op t left.value (word_at t out.old k) }
+{
+    for turn in 0..out.len() {
+        out[turn] = O::residue(left.value, i64::from(out[turn]));
+    }
+}
+
 /// The operator on one number and each word of a register, put into another.
 pub(crate) fn apply_residues_to<O: ResidueOperator>(left: Number, right: &[u32], out: &mut [u32])
     requires { length right.now ≡ length out.old }

@@ -1,6 +1,7 @@
 //! The operators over the turns of a run.
 
 ghost use Rattle.std.specs.Prelude.{◌≡◌, ◌<◌, ◌^◌, ℕ, ℤ, List, pos, ◌+ℤ◌, ◌≤ℤ◌, length, if◌then◌else◌, IfSome, IsTrue};
+ghost use Rattle.numeric.specs.declared.op.Op.TheVariants.{Sub};
 ghost use Rattle.numeric.specs.Apply.{apply, compare, exact};
 ghost use Rattle.std.specs.Bool.{OnTrue};
 ghost use Rattle.std.specs.Int.{int_max, int_min};
@@ -16,9 +17,11 @@ use crate::evaluation::kernels::{
     widen_all,
 };
 use crate::evaluation::lanes::{ClampedRamp, Lanes, Number};
+use crate::evaluation::operations::Difference;
 use crate::evaluation::operators::{applied, clamped, negated, wrapped};
 use crate::evaluation::quotients::{divide_all, reduce_all};
 use crate::evaluation::repeats::Repeat;
+use crate::evaluation::residue_kernels::apply_residues_from;
 use crate::evaluation::words::exact_word;
 use numeric::{Comparison, Op, Ty};
 use tree::Value;
@@ -312,6 +315,16 @@ pub(crate) fn apply_lanes(
     }
 }
 
+/// A value less lanes over this register, if these are of its type.
+fn subtract_lanes(value: Value, lanes: Lanes, out: &mut [u32]) -> Option<Lanes>
+    ensures narrow { IfSome result (IsNarrowFor (length out.new)) }
+    ensures lanes { IfSome result (λ x. (k : ℕ) → k < length out.new → lane x out.new k ≡ applied Sub value (lane lanes out.old k)) }
+{
+    spread_as(value.ty, lanes, out)?;
+    apply_residues_from::<Difference>(number_of(value), out);
+    Some(Lanes::Vector(value.ty))
+}
+
 /// The lanes of an operand that repeats another, put over a register of its own. The other's lie over this register.
 fn repeat_lanes(repeat: Repeat, lanes: Lanes, register: &[u32], out: &mut [u32]) -> Option<Lanes>
     requires length { length register.now ≡ length out.old }
@@ -323,6 +336,7 @@ fn repeat_lanes(repeat: Repeat, lanes: Lanes, register: &[u32], out: &mut [u32])
     match repeat {
         Repeat::Same => Some(lanes),
         Repeat::Opposite => negate_lanes(lanes, out),
+        Repeat::Complement(value) => subtract_lanes(value, lanes, out),
     }
 }
 

@@ -4,6 +4,8 @@ use Rattle.numeric.specs.declared.ty.Ty.{Ty}
 use Rattle.numeric.specs.declared.ty.Ty.TheVariants.{U8, U16}
 use Rattle.meaning.specs.declared.image.shape.Shape.{Shape}
 use Rattle.meaning.specs.declared.image.picture.Image.{Image}
+use Rattle.meaning.specs.declared.image.samples.Samples.{Samples}
+use Rattle.meaning.specs.declared.image.samples.Samples.TheVariants.{Bytes, Words}
 use Rattle.meaning.specs.Image.Raster.{sample_count}
 
 -- a type of samples and the number of samples along each dimension
@@ -20,8 +22,13 @@ pub record Picture : Type 0 where
 abbrev pub shape_of : Shape → Frame
 shape_of s = record { ty = s.ty; extents = s.extents.items }
 
+-- the numbers of samples, however they are kept
+abbrev pub numbers : Samples → List ℕ
+numbers (Bytes bytes) = bytes.items
+numbers (Words words) = words.items
+
 abbrev pub image_of : Image → Picture
-image_of i = record { ty = i.ty; extents = i.extents.items; samples = i.samples.items }
+image_of i = record { ty = i.ty; extents = i.extents.items; samples = numbers i.samples }
 
 -- the types of samples that images have
 abbrev pub IsSampleType : Ty → Type 0

@@ -1,4 +1,4 @@
-use Rattle.std.proofs.Common.{◌-◌, ◌∙◌, ℕ, get_or, arith, ap, sym}
+use Rattle.std.proofs.Common.{◌∙◌, ℕ, get_or, arith, ap, sym}
 use Rattle.std.proofs.lemmas.List.{get_or_past}
 use Rattle.board.proofs.ByCell.{get_sample}
 use Rattle.board.proofs.kept.bits_of_cell.Goals as goal

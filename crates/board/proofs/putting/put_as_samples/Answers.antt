@@ -1,83 +1,24 @@
-use Rattle.std.proofs.Common.{◌≡◌, ◌+◌, ◌-◌, ◌*◌, ◌<◌, ◌≤◌, ◌∙◌, ℕ, ℤ, List, length, set, arith, ap, sym}
-use Rattle.board.specs.Kept.{all_bits, in_planes, sample_place}
-use Rattle.board.specs.Layout.{value_at}
-use Rattle.board.specs.Words.{bits_of}
-use Rattle.board.proofs.ByCell.{length_all, place_told, row_inside, set_sample}
-use Rattle.board.proofs.Sheets.{others_kept, row_set}
+use Rattle.std.proofs.Common.{length, arith}
+use Rattle.board.proofs.ColourRows.{colour_within, put_stays, row_put, ColourRow}
 use Rattle.board.proofs.putting.put_as_samples.Goals as goal
 
-pub overflow_mul-samples : goal.overflow_mul-samples
-overflow_mul-samples g c =
-    let lt = c.loop-more-test.true in
-    let d : ℕ = c.args.first + c.loop-more.more - length c.args.bits_now.now in
-    let pixel : ℕ = c.args.pixel + c.loop-more.more in
-    let at : d ≡ c.args.colour * c.args.planes.pixels + pixel = omega (arith, c.requires.place) in
-    let inside : d < in_planes c.args.planes = omega (arith, c.requires.inside, c.requires.place, lt) in
-    let below = row_inside c.args.planes d pixel c.args.colour inside at (omega (arith, c.requires.one, lt)) in
-    omega (arith, below, c.requires.fits, c.loop-more.auto.samples)
+pub write_each-requires-clause-room : goal.write_each-requires-clause-room
+write_each-requires-clause-room g c k lt =
+    let n = length c.args.bits_now.now in
+    let row : ColourRow c.args.planes n c.args.first c.args.count c.args.pixel c.args.colour = record { inside = c.requires.inside; stands = c.requires.place; one = c.requires.one } in
+    let below = colour_within c.args.planes n c.args.first c.args.count c.args.pixel c.args.colour row k lt in
+    omega (arith, below, c.requires.fits)
 
-pub overflow_add-samples-in-loop-more : goal.overflow_add-samples-in-loop-more
-overflow_add-samples-in-loop-more g c =
-    let lt = c.loop-more-test.true in
-    let d : ℕ = c.args.first + c.loop-more.more - length c.args.bits_now.now in
-    let pixel : ℕ = c.args.pixel + c.loop-more.more in
-    let at : d ≡ c.args.colour * c.args.planes.pixels + pixel = omega (arith, c.requires.place) in
-    let inside : d < in_planes c.args.planes = omega (arith, c.requires.inside, c.requires.place, lt) in
-    let below = row_inside c.args.planes d pixel c.args.colour inside at (omega (arith, c.requires.one, lt)) in
-    omega (arith, below, c.requires.fits, c.loop-more.auto.samples)
-
-pub offset_bounds-samples-pixel : goal.offset_bounds-samples-pixel
-offset_bounds-samples-pixel g c =
-    let lt = c.loop-more-test.true in
-    let d : ℕ = c.args.first + c.loop-more.more - length c.args.bits_now.now in
-    let pixel : ℕ = c.args.pixel + c.loop-more.more in
-    let at : d ≡ c.args.colour * c.args.planes.pixels + pixel = omega (arith, c.requires.place) in
-    let inside : d < in_planes c.args.planes = omega (arith, c.requires.inside, c.requires.place, lt) in
-    let below = row_inside c.args.planes d pixel c.args.colour inside at (omega (arith, c.requires.one, lt)) in
-    omega (arith, below, c.requires.fits, c.loop-more.auto.samples)
-
-pub bounds-samples-pixel : goal.bounds-samples-pixel
-bounds-samples-pixel g c =
-    let lt = c.loop-more-test.true in
-    let d : ℕ = c.args.first + c.loop-more.more - length c.args.bits_now.now in
-    let pixel : ℕ = c.args.pixel + c.loop-more.more in
-    let at : d ≡ c.args.colour * c.args.planes.pixels + pixel = omega (arith, c.requires.place) in
-    let inside : d < in_planes c.args.planes = omega (arith, c.requires.inside, c.requires.place, lt) in
-    let below = row_inside c.args.planes d pixel c.args.colour inside at (omega (arith, c.requires.one, lt)) in
-    omega (arith, below, c.requires.fits, c.loop-more.auto.samples)
-
-pub overflow_cast-samples : goal.overflow_cast-samples
-overflow_cast-samples g c =
-    let i : ℕ = c.loop-more.more in
-    let d : ℕ = c.args.first + i in
-    let is = c.at.ensures ∙ c.requires.row i c.loop-more-test.true in
-    let few = c.requires.samples d (omega (arith, c.requires.place)) (omega (arith, c.requires.inside, c.loop-more-test.true)) in
-    omega (arith, is, few)
-
-pub loop-more-preserved : goal.loop-more-preserved
-loop-more-preserved g c =
-    let V : List ℤ = g.J.Run.values in
+pub returns-clause-put : goal.returns-clause-put
+returns-clause-put g c =
     let x = c.args.planes in
-    let i : ℕ = c.loop-more.more in
-    let bits : List ℕ = c.args.bits_now.now in
-    let samples : List ℕ = c.loop-more.samples in
-    let v : ℕ = c.at.result in
-    let now : List ℕ = all_bits x bits samples in
-    let d : ℕ = c.args.first + i in
-    let pixel : ℕ = c.args.pixel + i in
-    let place : ℕ = pixel * x.colours + c.args.colour in
-    let after : List ℕ = all_bits x bits (set samples place v) in
-    let inside : d < length bits + in_planes x = omega (arith, c.requires.inside, c.loop-more-test.true) in
-    let past : length bits ≤ d = omega (arith, c.requires.place) in
-    let in_plane : pixel < x.pixels = omega (arith, c.requires.one, c.loop-more-test.true) in
-    let before : d - length bits ≡ c.args.colour * x.pixels + pixel = omega (arith, c.requires.place) in
-    let stands : sample_place x (d - length bits) ≡ place = ap (sample_place x) before ∙ place_told x pixel c.args.colour in_plane in
-    let long = length_all x bits samples in
-    let room : d < length now = omega (arith, inside, long) in
-    let is : v ≡ bits_of (value_at V d) = c.at.ensures ∙ c.requires.row i c.loop-more-test.true in
-    let set_is : after ≡ set now d v = ap (λ (n : ℕ). all_bits x bits (set samples n v)) (sym stands)
-    ∙ set_sample x bits samples d v past inside (omega (arith, c.requires.fits, c.loop-more.auto.samples)) in
-    record {
-      put = row_set V now after c.args.first i v room is set_is c.loop-more.invariant.put;
-      kept = λ n had. others_kept V now after d v n room is set_is (c.loop-more.invariant.kept n had);
-    }
+    let bits = c.args.bits_now.now in
+    let row : ColourRow x (length bits) c.args.first c.args.count c.args.pixel c.args.colour = record { inside = c.requires.inside; stands = c.requires.place; one = c.requires.one } in
+    row_put x g.J.Run.values bits c.args.values.now c.args.samples.now c.write_each.new.bytes c.args.first c.args.from c.args.count c.args.pixel c.args.colour row c.requires.row c.write_each.ensures
+
+pub returns-clause-more : goal.returns-clause-more
+returns-clause-more g c =
+    let x = c.args.planes in
+    let bits = c.args.bits_now.now in
+    let row : ColourRow x (length bits) c.args.first c.args.count c.args.pixel c.args.colour = record { inside = c.requires.inside; stands = c.requires.place; one = c.requires.one } in
+    put_stays x g.J.Run.values bits c.args.values.now c.args.samples.now c.write_each.new.bytes c.args.first c.args.from c.args.count c.args.pixel c.args.colour row c.requires.row c.write_each.ensures

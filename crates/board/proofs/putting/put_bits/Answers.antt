@@ -38,7 +38,7 @@ put_row-requires-clause-row g c k lt =
     let all = ap length c.runs-run-items.ensures.cells in
     let here : slice_index cells (c.loop-run.from + k) ≡ (get_or runs c.loop-run.run-index none).first + k =
     (λ i. slice_index (sym c.runs-run-items.ensures.cells i) (c.loop-run.invariant.from i + k)) ∙ stands.1 in
-    bits_at_place V cells (g.V.Values.bits c.args.values.now) (c.loop-run.from + k) c.requires.values (omega (arith, inside, all, c.loop-run.invariant.from)) ∙ ap (λ (n : ℕ). bits_of (value_at V n)) here
+    bits_at_place V cells c.args.values.now (c.loop-run.from + k) c.requires.values (omega (arith, inside, all, c.loop-run.invariant.from)) ∙ ap (λ (n : ℕ). bits_of (value_at V n)) here
 
 pub put_row-requires-clause-inside : goal.put_row-requires-clause-inside
 put_row-requires-clause-inside g c some =

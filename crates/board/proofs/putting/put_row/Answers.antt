@@ -12,7 +12,7 @@ put_alike-done-requires-clause-row g c k lt =
     let done : ℕ = c.loop-done.done in
     let from : c.args.from + done + k ≡ c.args.from + (done + k) = omega arith in
     let first : c.args.first + (done + k) ≡ c.args.first + done + k = omega arith in
-    ap (λ (n : ℕ). slice_index (g.V.Values.bits c.args.values.now) n) from ∙ c.requires.row (done + k) (omega (arith, lt)) ∙ ap (λ (n : ℕ). bits_of (value_at V n)) first
+    ap (λ (n : ℕ). slice_index c.args.values.now n) from ∙ c.requires.row (done + k) (omega (arith, lt)) ∙ ap (λ (n : ℕ). bits_of (value_at V n)) first
 
 pub loop-done-preserved : goal.loop-done-preserved
 loop-done-preserved g c =

@@ -1,32 +1,16 @@
-use Rattle.std.proofs.Common.{◌≡◌, ◌+◌, ◌-◌, ◌*◌, ◌∙◌, ℕ, length, arith, ap}
-use Rattle.board.proofs.InParts.{colour_lies, colour_place, ColourRow}
+use Rattle.board.proofs.ColourRows.{row_shown, shown_stays, ColourRow}
 use Rattle.board.proofs.showing.show_colour.Goals as goal
 
-pub show_beside-requires-clause-lies : goal.show_beside-requires-clause-lies
-show_beside-requires-clause-lies g c k lt =
-    let row : ColourRow c.args.planes c.args.before c.args.from (length c.args.part.now) c.args.first c.args.count c.args.pixel c.args.colour =
-    record { inside = c.requires.inside; stands = c.requires.stands; one = c.requires.one; behind = c.requires.part.0; within = c.requires.part.1 } in
-    colour_lies c.args.planes c.args.before c.args.from (length c.args.part.now) c.args.first c.args.count c.args.pixel c.args.colour row k lt
+pub returns-clause-shown : goal.returns-clause-shown
+returns-clause-shown g c =
+    let x = c.args.planes in
+    let row : ColourRow x c.args.before c.args.first c.args.count c.args.pixel c.args.colour = record { inside = c.requires.inside; stands = c.requires.stands; one = c.requires.one } in
+    row_shown x c.args.before g.J.Run.values c.args.values.now c.args.part.now c.write_each.new.bytes c.args.first c.args.given c.args.count c.args.pixel c.args.colour c.args.from row
+    c.requires.row c.requires.part.0 c.requires.part.1 c.write_each.auto.bytes c.write_each.ensures
 
-pub show_beside-requires-clause-places : goal.show_beside-requires-clause-places
-show_beside-requires-clause-places g c k lt =
-    let row : ColourRow c.args.planes c.args.before c.args.from (length c.args.part.now) c.args.first c.args.count c.args.pixel c.args.colour =
-    record { inside = c.requires.inside; stands = c.requires.stands; one = c.requires.one; behind = c.requires.part.0; within = c.requires.part.1 } in
-    let behind = c.requires.part.0 in
-    let single : k * c.args.planes.colours ≡ k * 1 = ap (λ (m : ℕ). k * m) c.if-planes-eq1.true in
-    let at : c.args.pixel * c.args.planes.colours + c.args.colour + k * c.args.planes.colours ≡ c.args.from + (c.args.pixel * c.args.planes.colours + c.args.colour - c.args.from + k) = omega (arith, behind, single) in
-    colour_place c.args.planes c.args.before c.args.from (length c.args.part.now) c.args.first c.args.count c.args.pixel c.args.colour row k lt ∙ at
-
-pub show_apart-requires-clause-lies : goal.show_apart-requires-clause-lies
-show_apart-requires-clause-lies g c k lt =
-    let row : ColourRow c.args.planes c.args.before c.args.from (length c.args.part.now) c.args.first c.args.count c.args.pixel c.args.colour =
-    record { inside = c.requires.inside; stands = c.requires.stands; one = c.requires.one; behind = c.requires.part.0; within = c.requires.part.1 } in
-    colour_lies c.args.planes c.args.before c.args.from (length c.args.part.now) c.args.first c.args.count c.args.pixel c.args.colour row k lt
-
-pub show_apart-requires-clause-places : goal.show_apart-requires-clause-places
-show_apart-requires-clause-places g c k lt =
-    let row : ColourRow c.args.planes c.args.before c.args.from (length c.args.part.now) c.args.first c.args.count c.args.pixel c.args.colour =
-    record { inside = c.requires.inside; stands = c.requires.stands; one = c.requires.one; behind = c.requires.part.0; within = c.requires.part.1 } in
-    let behind = c.requires.part.0 in
-    let at : c.args.pixel * c.args.planes.colours + c.args.colour + k * c.args.planes.colours ≡ c.args.from + (c.args.pixel * c.args.planes.colours + c.args.colour - c.args.from + k * c.args.planes.colours) = omega (arith, behind) in
-    colour_place c.args.planes c.args.before c.args.from (length c.args.part.now) c.args.first c.args.count c.args.pixel c.args.colour row k lt ∙ at
+pub returns-clause-more : goal.returns-clause-more
+returns-clause-more g c =
+    let x = c.args.planes in
+    let row : ColourRow x c.args.before c.args.first c.args.count c.args.pixel c.args.colour = record { inside = c.requires.inside; stands = c.requires.stands; one = c.requires.one } in
+    shown_stays x c.args.before g.J.Run.values c.args.values.now c.args.part.now c.write_each.new.bytes c.args.first c.args.given c.args.count c.args.pixel c.args.colour c.args.from row
+    c.requires.row c.requires.part.0 c.requires.part.1 c.write_each.auto.bytes c.write_each.ensures

@@ -37,7 +37,7 @@ show_row-requires-clause-row g c k lt =
     let at : ℕ = c.loop-run.given + k in
     let here : slice_index cells at ≡ (get_or runs c.loop-run.run-index none).first + k =
     (λ i. slice_index (sym c.runs-run-items.ensures.cells i) (c.loop-run.invariant.given i + k)) ∙ stands.1 in
-    bits_at_place V cells (g.V.Values.bits c.args.values.now) at c.requires.values (omega (arith, inside, all, c.loop-run.invariant.given)) ∙ ap (λ (n : ℕ). bits_of (value_at V n)) here
+    bits_at_place V cells c.args.values.now at c.requires.values (omega (arith, inside, all, c.loop-run.invariant.given)) ∙ ap (λ (n : ℕ). bits_of (value_at V n)) here
 
 pub show_row-requires-clause-inside : goal.show_row-requires-clause-inside
 show_row-requires-clause-inside g c some =

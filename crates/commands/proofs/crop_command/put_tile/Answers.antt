@@ -4,7 +4,7 @@ use Rattle.std.proofs.lemmas.Result.{IfErr-weaker, err_from_is_err_and, on_ok_we
 use Rattle.crop.specs.Scene.{scene_of}
 use Rattle.commands.proofs.Kept.{put_then, same_refl, unput_then}
 use Rattle.commands.proofs.Ways.{told}
-use Rattle.commands.specs.Crops.{IsTileFile, IsTileText, IsTileUnput}
+use Rattle.commands.specs.Crops.{IsTileFile, IsTileText}
 use Rattle.commands.proofs.crop_command.put_tile.Goals as goal
 
 pub returns-in_err-tile-clause-refused : goal.returns-in_err-tile-clause-refused

@@ -1,13 +1,7 @@
-use Rattle.std.proofs.Common.{◌≡◌, List, ℕ, Ok, inl, inr, refl, subst}
+use Rattle.std.proofs.Common.{inl, inr, refl}
 use Rattle.std.proofs.lemmas.Result.{IfErr-weaker, IfOk-weaker, err_from_is_err_and}
-use Rattle.algo.specs.declared.inputs.Inputs.{Inputs}
-use Rattle.algo.specs.Parts.{input_frame}
-use Rattle.algo.specs.View.{algorithm_of, samples_of}
-use Rattle.pnm.specs.Reading.{reading, wanted_of}
 use Rattle.commands.proofs.Kept.{of_device}
 use Rattle.commands.proofs.Ways.{told}
-use Rattle.commands.specs.declared.pipeline.fault.Fault.{Fault}
-use Rattle.commands.specs.Pictures.{IsImageFault}
 use Rattle.commands.specs.Status.{fault_of}
 use Rattle.commands.proofs.picture.image_file.Goals as goal
 
@@ -19,10 +13,8 @@ returns-in_err-bytes-clause-refused g c =
 
 pub returns-clause-read : goal.returns-clause-read
 returns-clause-read g c =
-    let Reads : Inputs → List ℕ → Type 0 = λ inputs bytes. reading (wanted_of (input_frame (algorithm_of c.args.algo.now))) bytes ≡ Ok (samples_of inputs) in
-    IfOk-weaker c.image_in.result _ _ (λ inputs h. (c.in_ok-bytes.bytes.items, c.in_ok-bytes.ensures.bytes, subst (Reads inputs) c.as_slice.ensures.value h)) c.image_in.ensures.read
+    IfOk-weaker c.read_image.result _ _ (λ inputs h. (c.in_ok-bytes.bytes.items, c.in_ok-bytes.ensures.bytes, h)) c.read_image.ensures.read
 
 pub returns-clause-refused : goal.returns-clause-refused
 returns-clause-refused g c =
-    let Faulty : Fault → List ℕ → Type 0 = λ fault bytes. IsImageFault (input_frame (algorithm_of c.args.algo.now)) bytes fault in
-    IfErr-weaker c.image_in.result _ _ (λ fault h. inr (c.in_ok-bytes.bytes.items, c.in_ok-bytes.ensures.bytes, subst (Faulty fault) c.as_slice.ensures.value h)) c.image_in.ensures.refused
+    IfErr-weaker c.read_image.result _ _ (λ fault h. inr (c.in_ok-bytes.bytes.items, c.in_ok-bytes.ensures.bytes, h)) c.read_image.ensures.refused

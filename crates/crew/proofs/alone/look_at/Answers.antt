@@ -1,5 +1,5 @@
 use Rattle.std.proofs.Common.{◌≡◌, ◌+◌, ◌<◌, ◌++◌, ◌∙◌, ℕ, ℤ, pos, List, get_or, length, ap, sym, subst, arith}
-use Rattle.std.specs.Prelude.{drop, slice_index, take}
+use Rattle.std.specs.Prelude.{slice_index}
 use Rattle.std.proofs.lemmas.List.{append_assoc, get_or-drop, get_or-take, length-append, length-map}
 use Rattle.board.specs.Layout.{value_at}
 use Rattle.board.specs.Seen.{seen_bits}

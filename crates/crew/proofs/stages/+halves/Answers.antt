@@ -1,5 +1,5 @@
 use borrow.Author.Rules.{rules}
-use Rattle.std.proofs.Common.{◌≡◌, ◌+◌, ◌<◌, ℕ, length, arith}
+use Rattle.std.proofs.Common.{◌≡◌, ◌+◌, ◌<◌, length, arith}
 use Rattle.board.specs.Seen.{seen_bits}
 use Rattle.crew.proofs.Staged.{can_behind, can_front, worked_together}
 use Rattle.crew.proofs.stages.+halves.Goals as goal

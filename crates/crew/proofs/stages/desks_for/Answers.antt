@@ -1,4 +1,4 @@
-use Rattle.std.proofs.Common.{◌≡◌, ◌+◌, ◌∷◌, [], length, ap, arith}
+use Rattle.std.proofs.Common.{◌∷◌, [], length, ap, arith}
 use Rattle.std.proofs.lemmas.List.{length-append}
 use Rattle.crew.specs.Stages.{IsDesk}
 use Rattle.crew.proofs.Staged.{pushed}

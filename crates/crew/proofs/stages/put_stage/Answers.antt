@@ -1,4 +1,4 @@
-use Rattle.std.proofs.Common.{◌≡◌, ◌+◌, ◌<◌, ◌≤◌, ◌∙◌, ℕ, ℤ, List, get_or, length, ap, subst, sym, arith}
+use Rattle.std.proofs.Common.{◌≡◌, ◌+◌, ℕ, ℤ, List, get_or, subst, arith}
 use Rattle.board.specs.Layout.{Layout}
 use Rattle.crew.specs.Stages.{ArePut}
 use Rattle.crew.proofs.InOrder.{one_piece_more}

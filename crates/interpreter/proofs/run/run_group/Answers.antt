@@ -4,6 +4,7 @@ use Rattle.plan.specs.View.{plan_of, group_of, statement_of}
 use Rattle.plan.specs.Certificate.Certificate.{certificate_of}
 use Rattle.plan.specs.Certificate.Cells.{grid_point}
 use Rattle.plan.specs.Plan.{Group}
+use Rattle.meaning.specs.Image.View.{numbers}
 use Rattle.plan.specs.Semantics.Actions.{actions}
 use Rattle.plan.specs.Semantics.Setting.{setting_of, around_of}
 use Rattle.interpreter.specs.Buffers.Blocks.{memory_of}
@@ -21,7 +22,7 @@ pub returns-clause-gives : goal.returns-clause-gives
 returns-clause-gives g c =
     let p = plan_of c.args.plan.now in
     let d = certificate_of c.args.cert.now in
-    let samples = c.args.image.now.samples.items in
+    let samples = numbers c.args.image.now.samples in
     let cell = g.C.Cells.cell c.args.cells.now in
     let n = c.args.number in
     let group = c.in-Some.group.now in

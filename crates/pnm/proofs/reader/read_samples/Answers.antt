@@ -1,7 +1,7 @@
-use Rattle.std.proofs.Common.{ap, ◌∙◌, ◌||◌, false}
-use Rattle.pnm.specs.Reading.{Going}
+use Rattle.std.proofs.Common.{ap, sym, ◌∙◌, ◌||◌, false, []}
+use Rattle.pnm.specs.Reading.{in_raster}
 use Rattle.pnm.proofs.reader.read_samples.Goals as goal
-use Rattle.pnm.proofs.ByteByByte.{has_read_more, looks_byte, looks_end, refuses_byte, refuses_end, refuses_device}
+use Rattle.pnm.proofs.ByteByByte.{begins, has_read_more, looks_byte, looks_end, refuses_byte, refuses_end, refuses_device}
 
 pub returns-in-Err-take_byte-clause-refusal : goal.returns-in-Err-take_byte-clause-refusal
 returns-in-Err-take_byte-clause-refusal g c =
@@ -30,9 +30,9 @@ loop-turn-preserved g c = (
 pub returns-in-Some-clause-file : goal.returns-in-Some-clause-file
 returns-in-Some-clause-file g c =
     let read = c.loop-turn.invariant.0 in
-    c.read_bytes.ensures.file c.args.wanted.now (g.S.Source.remaining c.args.source.now) read.bytes read.takes (read.leads ∙ ap (λ s. Going s c.loop-turn.samples.items) c.in-Some.ensures.0)
+    c.read_bytes.ensures.file c.args.wanted.now (g.S.Source.remaining c.args.source.now) read.bytes read.takes (read.leads ∙ begins c.loop-turn.state (in_raster c.in-Some.count) c.loop-turn.samples.items [] c.in-Some.ensures.0 (sym c.as_slice.ensures.value ∙ c.in-Some.ensures.1))
 
 pub returns-in-Some-clause-refusal : goal.returns-in-Some-clause-refusal
 returns-in-Some-clause-refusal g c =
     let read = c.loop-turn.invariant.0 in
-    c.read_bytes.ensures.refusal c.args.wanted.now (g.S.Source.remaining c.args.source.now) read.bytes read.takes (read.leads ∙ ap (λ s. Going s c.loop-turn.samples.items) c.in-Some.ensures.0)
+    c.read_bytes.ensures.refusal c.args.wanted.now (g.S.Source.remaining c.args.source.now) read.bytes read.takes (read.leads ∙ begins c.loop-turn.state (in_raster c.in-Some.count) c.loop-turn.samples.items [] c.in-Some.ensures.0 (sym c.as_slice.ensures.value ∙ c.in-Some.ensures.1))

@@ -3,6 +3,7 @@ use Rattle.std.specs.List.{flat_map}
 use Rattle.std.proofs.lemmas.Result.{err_from_is_err_and}
 use Rattle.std.proofs.KnownBytes.{Appends-trans}
 use Rattle.std.specs.Io.KnownBytes.{Appends}
+use Rattle.meaning.specs.Image.View.{numbers as numbers_kept}
 use Rattle.pnm.specs.Reading.{has_colours}
 use Rattle.pnm.specs.Source.{Sends}
 use Rattle.pnm.specs.Text.{magic, numbers, sample_bytes}
@@ -20,7 +21,7 @@ returns-in_err-send-clause-bytes g c =
     let first = subst (λ xs. Sends old new xs (Err e)) text c.in_err-send.ensures.bytes in
     let start = magic (has_colours image.extents.items) in
     let header = numbers image.ty image.extents.items in
-    sends_failed old new _ c.from_residual.result p.0 e p.1 p.2 (sends_first old new (start ++ header) (flat_map (sample_bytes image.ty) image.samples.items) e (sends_first old new start header e first))
+    sends_failed old new _ c.from_residual.result p.0 e p.1 p.2 (sends_first old new (start ++ header) (flat_map (sample_bytes image.ty) (numbers_kept image.samples)) e (sends_first old new start header e first))
 
 pub returns-in_err-send_numbers-clause-bytes : goal.returns-in_err-send_numbers-clause-bytes
 returns-in_err-send_numbers-clause-bytes g c =
@@ -36,7 +37,7 @@ returns-in_err-send_numbers-clause-bytes g c =
     let start = magic (has_colours image.extents.items) in
     let header = numbers image.ty image.extents.items in
     sends_failed old new _ c.from_residual-in_err-send_numbers.result p.0 e p.1 p.2
-    (sends_first old new (start ++ header) (flat_map (sample_bytes image.ty) image.samples.items) e (sends_both old mid new start header (Err e) first second))
+    (sends_first old new (start ++ header) (flat_map (sample_bytes image.ty) (numbers_kept image.samples)) e (sends_both old mid new start header (Err e) first second))
 
 pub returns-clause-bytes : goal.returns-clause-bytes
 returns-clause-bytes g c =
@@ -49,7 +50,7 @@ returns-clause-bytes g c =
     let text : c.magic_of.result.now ≡ magic (has_colours image.extents.items) = c.magic_of.ensures ∙ ap magic (c.has_colours.ensures ∙ ap has_colours c.as_slice-extents.ensures.value) in
     let first = subst (λ xs. Appends old mid xs) text c.in_ok-send.ensures.bytes in
     let second = subst (λ xs. Appends mid later (numbers image.ty xs)) c.as_slice-extents.ensures.value c.in_ok-send_numbers.ensures.bytes in
-    let third = subst (λ xs. Sends later new (flat_map (sample_bytes image.ty) xs) r) c.as_slice.ensures.value c.send_raster.ensures.bytes in
+    let third = c.send_raster.ensures.bytes in
     let start = magic (has_colours image.extents.items) in
     let header = numbers image.ty image.extents.items in
-    sends_both old later new (start ++ header) (flat_map (sample_bytes image.ty) image.samples.items) r (Appends-trans old mid later start header first second) third
+    sends_both old later new (start ++ header) (flat_map (sample_bytes image.ty) (numbers_kept image.samples)) r (Appends-trans old mid later start header first second) third

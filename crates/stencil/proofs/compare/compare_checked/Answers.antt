@@ -7,4 +7,4 @@ pub returns-clause-picture : goal.returns-clause-picture
 returns-clause-picture g c =
     let samples_in : Picture → List ℕ = λ p. p.samples in
     let same = ap samples_in (c.requires.picture ∙ sym c.in_ok-image.ensures.picture) in
-    same_of _ _ _ (c.as_slice.ensures.value ∙ (same ∙ sym c.as_slice-2.ensures.value)) c.compared-comparison.ensures.differs
+    same_of _ _ _ same c.compared-comparison.ensures.differs

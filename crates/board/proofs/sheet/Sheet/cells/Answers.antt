@@ -13,7 +13,7 @@ invariant_of-result g c =
     let n : ℕ = length c.self.inside.bits.items in
     let long : length c.as_slice.result.now ≡ n = ap length c.as_slice.ensures.value in
     let count = all_kept plan kept n c.self.invariant.2 in
-    let small = all_small plan V kept n c.self.invariant.2 c.self.invariant.1 c.self.invariant.5 in (
+    let small = all_small plan V kept n c.self.invariant.2 c.self.invariant.5 in (
       c.self.invariant.0,
       c.self.invariant.1,
       (λ i. long i + in_planes (c.planes.ensures i)) ∙ count,

@@ -6,7 +6,7 @@ use Rattle.board.specs.Kept.{all_bits, in_planes, planes_of, AreSamples}
 use Rattle.board.specs.Layout.{Layout, own_of}
 use Rattle.board.specs.Sheets.{HasBits, IsPut}
 use Rattle.board.specs.declared.source.Planes.{Planes}
-use Rattle.board.proofs.ByCell.{all_fit, all_kept, all_small}
+use Rattle.board.proofs.ByCell.{all_kept, all_small}
 use Rattle.board.proofs.Sheets.{all_have}
 use Rattle.board.proofs.sheet.Sheet.put.Goals as goal
 
@@ -23,15 +23,14 @@ put_bits-requires-clause-inside g c k lt =
 
 pub put_bits-requires-clause-fits : goal.put_bits-requires-clause-fits
 put_bits-requires-clause-fits g c =
-    let few = all_fit g.J.Run.layout c.self.inside.kept (length c.self.inside.bits.items) c.self.invariant.2 in
     let long = c.self.invariant.3 in
     let same = ap length c.as_mut_slice.ensures.value in
-    subst (λ (x : Planes). in_planes x ≤ length c.as_mut_slice.result.now) (sym c.planes-planes.ensures) (omega (arith, few, long, same))
+    subst (λ (x : Planes). in_planes x ≤ length c.as_mut_slice.result.now) (sym c.planes-planes.ensures) (omega (arith, long, same))
 
 pub put_bits-requires-clause-samples : goal.put_bits-requires-clause-samples
 put_bits-requires-clause-samples g c =
     let kept = c.self.inside.kept in
-    let small = all_small g.J.Run.layout g.J.Run.values kept (length c.self.inside.bits.items) c.self.invariant.2 c.self.invariant.1 c.self.invariant.5 in
+    let small = all_small g.J.Run.layout g.J.Run.values kept (length c.self.inside.bits.items) c.self.invariant.2 c.self.invariant.5 in
     let same : length c.self.inside.bits.items ≡ length c.as_mut_slice-bits.result.now = sym (ap length c.as_mut_slice-bits.ensures.value) in
     subst (λ (x : Planes). AreSamples g.J.Run.values (length c.as_mut_slice-bits.result.now) (length c.as_mut_slice-bits.result.now + in_planes x)) (sym c.planes-planes.ensures)
     (subst (λ (n : ℕ). AreSamples g.J.Run.values n (n + in_planes (planes_of kept))) same small)

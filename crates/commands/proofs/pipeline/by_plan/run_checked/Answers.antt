@@ -1,4 +1,4 @@
-use Rattle.std.proofs.Common.{Err, Ok, List, ℕ, refl, subst}
+use Rattle.std.proofs.Common.{Err, Ok, refl, subst}
 use Rattle.std.proofs.lemmas.Result.{err_from_is_err_and}
 use Rattle.meaning.specs.Algorithm.{Algorithm}
 use Rattle.meaning.specs.Image.View.{image_of}

@@ -21,6 +21,6 @@ returns c =
     let first = sym (to_z-of_z w64 c.args.first c.ranges.first) in
     if_some c.sample_type.result (λ t. (k : ℕ) → k < length out → typed t (word_at t out k) ≡ taken_as c.args.cast (typed ty (pos (bits_at out k)))) _
     (λ t h k lt.
-    found_taken c.args.cast _ _ (ap (λ (z : ℤ). source_at r (memory_of r.memory.now) Input ((z +ℤ pos k) ∷ others)) first ∙ c.in_ok-put_input_row.ensures k lt)
+    found_taken c.args.cast _ _ (ap (λ (z : ℤ). source_at r (memory_of r.memory.now) Input ((z +ℤ pos k) ∷ others)) first ∙ c.in_ok-most.ensures.there k lt)
     ∙ ap (λ (v : Value). Some v) (sym (h k lt)))
     c.sample_type.ensures

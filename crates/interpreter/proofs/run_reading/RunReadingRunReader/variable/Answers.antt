@@ -16,8 +16,8 @@ returns-clause-lanes c =
     let r = c.args.self.now in
     let name = c.args.name.now in
     let names : List (List ℕ) = map (λ x. string_bytes x.variable) r.coordinates.now in
-    let first = c.number_bound-first.result in
-    let second = c.number_bound-second.result in
+    let first = c.numbers_bound-first.result.0 in
+    let second = c.numbers_bound-first.result.1 in
     let same : length r.first.now ≡ length r.second.now = omega arith in
     let a : ℤ = to_z w64 (of_z w64 first) in
     let b : ℤ = to_z w64 (of_z w64 second) in
@@ -28,6 +28,6 @@ returns-clause-lanes c =
     let Q : Lanes → Type 0 = λ x. (k : ℕ) → k < length out → typed I32 (bound names (numbers_at r.first.now r.second.now k) name) ≡ lane x out k in
     if_some c.lanes_of.result P Q
     (λ x h k lt.
-    ap (typed I32) (bound_moved names r.first.now r.second.now name k same ∙ (λ i. moved (sym c.number_bound-first.ensures i) (sym c.number_bound-second.ensures i) k)
+    ap (typed I32) (bound_moved names r.first.now r.second.now name k same ∙ (λ i. moved (sym c.numbers_bound-first.ensures.first i) (sym c.numbers_bound-first.ensures.second i) k)
     ∙ (λ i. moved (sym (to_z-of_z w64 first first_fits) i) (sym (to_z-of_z w64 second second_fits) i) k)) ∙ h k lt)
     c.lanes_of.ensures.lanes

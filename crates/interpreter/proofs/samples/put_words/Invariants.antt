@@ -1,0 +1,7 @@
+use Rattle.std.proofs.Common.{◌≡◌, ◌≤◌}
+use Rattle.std.specs.Prelude.{slice_index}
+use Rattle.interpreter.proofs.EachWord.{WordsBelow}
+use Rattle.interpreter.proofs.samples.put_words.Given as goal
+
+abbrev pub invariant-loop-turn : goal.invariant-loop-turn
+invariant-loop-turn l = WordsBelow (λ k w. (w ≡ slice_index l.words k) × (w ≤ 65535)) l.turn l.initial.out l.out
