@@ -13,10 +13,10 @@ ghost use Rattle.tree.specs.Meaning.{typed};
 ghost use Rattle.tree.specs.Term.{Choice};
 ghost use Rattle.tree.specs.Term.{Binary as BinaryTerm, Call as CallTerm, Clamp as ClampTerm};
 
-use crate::evaluation::low_bits;
+use crate::evaluation::{low_bits, wrapped_number};
 use crate::reading::Reading;
 use crate::row::Row;
-use numeric::{Comparison, Op, Ty, compare, wrap};
+use numeric::{Comparison, Op, Ty, compare};
 use tree::Value;
 
 /// An expression of a line: of each variable the place of its number among those of the line's coordinates, and of each call the
@@ -111,18 +111,6 @@ fn number_at(numbers: &[i64], place: usize) -> i64
     match numbers.get(place) {
         Some(number) => *number,
         None => 0,
-    }
-}
-
-/// A number wrapped to the type. Most numbers are of their type: they are spared a division.
-#[inline(always)]
-fn wrapped_number(ty: Ty, number: i64) -> i64
-    ensures { result ≡ wrap ty number }
-{
-    if ty.least() <= number && number <= ty.greatest() {
-        number
-    } else {
-        wrap(ty, number)
     }
 }
 

@@ -14,6 +14,8 @@ mod residue_kernels;
 mod run;
 mod run_reader;
 mod small_kernels;
+mod small_orders;
+mod small_widths;
 mod stop;
 mod usual_indices;
 mod whole;
@@ -31,7 +33,7 @@ pub(crate) use looking::number_after;
 pub(crate) use operations::{
     Difference, Larger, Operator, Product, Quotient, Remainder, Smaller, Sum,
 };
-pub(crate) use operators::{applied, low_bits};
+pub(crate) use operators::{applied, low_bits, wrapped_number};
 pub use reader::Reader;
 pub use run::{evaluate_numbers, evaluate_run, evaluate_words};
 pub use run_reader::RunReader;

@@ -3,6 +3,7 @@
 ghost use Rattle.std.specs.Bool.{OnTrue};
 ghost use Rattle.std.specs.Prelude.{◌≡◌, ◌<◌, ◌≤◌, ◌≤ℤ◌, ◌&&◌, ◌||◌, ℕ, IfSome, if◌then◌else◌, not, pos, neg_ℤ, ◌+ℤ◌, ◌*ℤ◌, length};
 ghost use Rattle.std.specs.Int.{int_max, int_min};
+ghost use Rattle.numeric.specs.declared.op.Op.TheVariants.{Min, Max};
 ghost use Rattle.numeric.specs.declared.ty.Ty.{Ty as TyFound};
 ghost use Rattle.numeric.specs.Apply.{apply, compare};
 ghost use Rattle.numeric.specs.Wrap.{wrap, IsOf};
@@ -16,6 +17,9 @@ use crate::evaluation::operations::{
 };
 use crate::evaluation::residue_kernels::{apply_residues, apply_residues_by, apply_residues_to};
 use crate::evaluation::small_kernels::{clamp_small_by, widen_each_small};
+use crate::evaluation::small_orders::{
+    compare_each_small, compare_each_small_by, extreme_each, extreme_each_by,
+};
 use crate::evaluation::widths::{
     Signed8, Signed16, Signed32, Unsigned8, Unsigned16, Unsigned32, Width,
 };
@@ -140,6 +144,32 @@ fn apply_in<O: Operator>(ty: Ty, out: &mut [u32], right: &[u32])
     }
 }
 
+/// Each word or the one of another register, whichever is smaller, by a loop of the type's own.
+fn smaller_of_both(ty: Ty, out: &mut [u32], right: &[u32])
+    requires { length right.now ≡ length out.old }
+    ensures { (k : ℕ) → k < length out.new → word_at ty out.new k ≡ apply Min ty (word_at ty out.old k) (word_at ty right.now k) }
+{
+    match ty {
+        Ty::I8 => extreme_each::<Smaller, Signed8>(out, right),
+        Ty::I16 => extreme_each::<Smaller, Signed16>(out, right),
+        Ty::I32 => extreme_each::<Smaller, Signed32>(out, right),
+        _ => apply_in::<Smaller>(ty, out, right),
+    }
+}
+
+/// Each word or the one of another register, whichever is larger, by a loop of the type's own.
+fn larger_of_both(ty: Ty, out: &mut [u32], right: &[u32])
+    requires { length right.now ≡ length out.old }
+    ensures { (k : ℕ) → k < length out.new → word_at ty out.new k ≡ apply Max ty (word_at ty out.old k) (word_at ty right.now k) }
+{
+    match ty {
+        Ty::I8 => extreme_each::<Larger, Signed8>(out, right),
+        Ty::I16 => extreme_each::<Larger, Signed16>(out, right),
+        Ty::I32 => extreme_each::<Larger, Signed32>(out, right),
+        _ => apply_in::<Larger>(ty, out, right),
+    }
+}
+
 /// The operator on each word and the one of another register, by a loop of the operator's own, and of the type's where the type matters.
 pub(crate) fn apply_all(op: Op, ty: Ty, out: &mut [u32], right: &[u32])
     requires { length right.now ≡ length out.old }
@@ -151,8 +181,8 @@ pub(crate) fn apply_all(op: Op, ty: Ty, out: &mut [u32], right: &[u32])
         Op::Mul => apply_residues::<Product>(out, right),
         Op::Div => apply_in::<Quotient>(ty, out, right),
         Op::Rem => apply_in::<Remainder>(ty, out, right),
-        Op::Min => apply_in::<Smaller>(ty, out, right),
-        Op::Max => apply_in::<Larger>(ty, out, right),
+        Op::Min => smaller_of_both(ty, out, right),
+        Op::Max => larger_of_both(ty, out, right),
     }
 }
 
@@ -180,6 +210,34 @@ fn apply_by_in<O: Operator>(ty: Ty, out: &mut [u32], right: Number)
     }
 }
 
+/// Each word and one number, whichever is smaller, by a loop of the type's own.
+fn smaller_by(ty: Ty, out: &mut [u32], right: Number)
+    ensures { (k : ℕ) → k < length out.new → word_at ty out.new k ≡ apply Min ty (word_at ty out.old k) right.value }
+{
+    match (ty, i32::try_from(right.value)) {
+        (Ty::U8, Ok(number)) => extreme_each_by::<Smaller, Unsigned8>(out, number),
+        (Ty::U16, Ok(number)) => extreme_each_by::<Smaller, Unsigned16>(out, number),
+        (Ty::I8, Ok(number)) => extreme_each_by::<Smaller, Signed8>(out, number),
+        (Ty::I16, Ok(number)) => extreme_each_by::<Smaller, Signed16>(out, number),
+        (Ty::I32, Ok(number)) => extreme_each_by::<Smaller, Signed32>(out, number),
+        _ => apply_by_in::<Smaller>(ty, out, right),
+    }
+}
+
+/// Each word and one number, whichever is larger, by a loop of the type's own.
+fn larger_by(ty: Ty, out: &mut [u32], right: Number)
+    ensures { (k : ℕ) → k < length out.new → word_at ty out.new k ≡ apply Max ty (word_at ty out.old k) right.value }
+{
+    match (ty, i32::try_from(right.value)) {
+        (Ty::U8, Ok(number)) => extreme_each_by::<Larger, Unsigned8>(out, number),
+        (Ty::U16, Ok(number)) => extreme_each_by::<Larger, Unsigned16>(out, number),
+        (Ty::I8, Ok(number)) => extreme_each_by::<Larger, Signed8>(out, number),
+        (Ty::I16, Ok(number)) => extreme_each_by::<Larger, Signed16>(out, number),
+        (Ty::I32, Ok(number)) => extreme_each_by::<Larger, Signed32>(out, number),
+        _ => apply_by_in::<Larger>(ty, out, right),
+    }
+}
+
 /// The operator on each word and one number, by a loop of the operator's own, and of the type's where the type matters.
 pub(crate) fn apply_by(op: Op, ty: Ty, out: &mut [u32], right: Number)
     ensures { (k : ℕ) → k < length out.new → word_at ty out.new k ≡ apply op ty (word_at ty out.old k) right.value }
@@ -190,8 +248,8 @@ pub(crate) fn apply_by(op: Op, ty: Ty, out: &mut [u32], right: Number)
         Op::Mul => apply_residues_by::<Product>(out, right),
         Op::Div => apply_by_in::<Quotient>(ty, out, right),
         Op::Rem => apply_by_in::<Remainder>(ty, out, right),
-        Op::Min => apply_by_in::<Smaller>(ty, out, right),
-        Op::Max => apply_by_in::<Larger>(ty, out, right),
+        Op::Min => smaller_by(ty, out, right),
+        Op::Max => larger_by(ty, out, right),
     }
 }
 
@@ -366,9 +424,9 @@ fn compare_in<C: Comparing>(ty: Ty, out: &mut [u32], right: &[u32])
         Ty::U8 => compare_each::<C, Unsigned8>(out, right),
         Ty::U16 => compare_each::<C, Unsigned16>(out, right),
         Ty::U32 => compare_each::<C, Unsigned32>(out, right),
-        Ty::I8 => compare_each::<C, Signed8>(out, right),
-        Ty::I16 => compare_each::<C, Signed16>(out, right),
-        Ty::I32 => compare_each::<C, Signed32>(out, right),
+        Ty::I8 => compare_each_small::<C, Signed8>(out, right),
+        Ty::I16 => compare_each_small::<C, Signed16>(out, right),
+        Ty::I32 => compare_each_small::<C, Signed32>(out, right),
     }
 }
 
@@ -411,17 +469,31 @@ fn compare_by_in<C: Comparing>(ty: Ty, out: &mut [u32], right: Number)
     }
 }
 
+/// A mask that says where the comparison with one number holds, by a loop of the type's own, in 32 bits where type and number allow it.
+fn compare_usual_by<C: Comparing>(ty: Ty, out: &mut [u32], right: Number)
+    ensures { (k : ℕ) → k < length out.new → mask_at out.new k ≡ compare C.by (word_at ty out.old k) right.value }
+{
+    match (ty, i32::try_from(right.value)) {
+        (Ty::U8, Ok(number)) => compare_each_small_by::<C, Unsigned8>(out, number),
+        (Ty::U16, Ok(number)) => compare_each_small_by::<C, Unsigned16>(out, number),
+        (Ty::I8, Ok(number)) => compare_each_small_by::<C, Signed8>(out, number),
+        (Ty::I16, Ok(number)) => compare_each_small_by::<C, Signed16>(out, number),
+        (Ty::I32, Ok(number)) => compare_each_small_by::<C, Signed32>(out, number),
+        _ => compare_by_in::<C>(ty, out, right),
+    }
+}
+
 /// A mask that says where the comparison with one number holds, by a loop of the comparison's and the type's own.
 pub(crate) fn compare_by(by: Comparison, ty: Ty, out: &mut [u32], right: Number)
     ensures { (k : ℕ) → k < length out.new → mask_at out.new k ≡ compare by (word_at ty out.old k) right.value }
 {
     match by {
-        Comparison::Less => compare_by_in::<IsLess>(ty, out, right),
-        Comparison::AtMost => compare_by_in::<IsAtMost>(ty, out, right),
-        Comparison::Greater => compare_by_in::<IsGreater>(ty, out, right),
-        Comparison::AtLeast => compare_by_in::<IsAtLeast>(ty, out, right),
-        Comparison::Equal => compare_by_in::<IsEqual>(ty, out, right),
-        Comparison::Different => compare_by_in::<IsDifferent>(ty, out, right),
+        Comparison::Less => compare_usual_by::<IsLess>(ty, out, right),
+        Comparison::AtMost => compare_usual_by::<IsAtMost>(ty, out, right),
+        Comparison::Greater => compare_usual_by::<IsGreater>(ty, out, right),
+        Comparison::AtLeast => compare_usual_by::<IsAtLeast>(ty, out, right),
+        Comparison::Equal => compare_usual_by::<IsEqual>(ty, out, right),
+        Comparison::Different => compare_usual_by::<IsDifferent>(ty, out, right),
     }
 }
 

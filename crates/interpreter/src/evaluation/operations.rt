@@ -103,6 +103,10 @@ pub(crate) trait Comparing {
     /// Whether it holds.
     fn holds(left: i64, right: i64) -> bool
         ensures { result ≡ compare by left right };
+
+    /// The same of numbers of 32 bits.
+    fn holds_small(left: i32, right: i32) -> bool
+        ensures { result ≡ compare by left right };
 }
 
 /// Whether the first number is less.
@@ -129,12 +133,20 @@ impl Comparing for IsLess {
     fn holds(left: i64, right: i64) -> bool {
         left < right
     }
+
+    fn holds_small(left: i32, right: i32) -> bool {
+        left < right
+    }
 }
 
 impl Comparing for IsAtMost {
     ghost by = { AtMost };
 
     fn holds(left: i64, right: i64) -> bool {
+        left <= right
+    }
+
+    fn holds_small(left: i32, right: i32) -> bool {
         left <= right
     }
 }
@@ -145,12 +157,20 @@ impl Comparing for IsGreater {
     fn holds(left: i64, right: i64) -> bool {
         left > right
     }
+
+    fn holds_small(left: i32, right: i32) -> bool {
+        left > right
+    }
 }
 
 impl Comparing for IsAtLeast {
     ghost by = { AtLeast };
 
     fn holds(left: i64, right: i64) -> bool {
+        left >= right
+    }
+
+    fn holds_small(left: i32, right: i32) -> bool {
         left >= right
     }
 }
@@ -161,12 +181,20 @@ impl Comparing for IsEqual {
     fn holds(left: i64, right: i64) -> bool {
         left == right
     }
+
+    fn holds_small(left: i32, right: i32) -> bool {
+        left == right
+    }
 }
 
 impl Comparing for IsDifferent {
     ghost by = { Different };
 
     fn holds(left: i64, right: i64) -> bool {
+        left != right
+    }
+
+    fn holds_small(left: i32, right: i32) -> bool {
         left != right
     }
 }

@@ -9,17 +9,24 @@ ghost use Rattle.tree.specs.Meaning.{applied, clamped, negated, typed};
 use numeric::{Op, Ty, wrap};
 use tree::Value;
 
-/// A number wrapped to the type.
+/// A number wrapped to the type. Most numbers are of their type: they are spared a division.
+#[inline(always)]
+pub(crate) fn wrapped_number(ty: Ty, number: i64) -> i64
+    ensures { result ≡ wrap ty number }
+{
+    if ty.least() <= number && number <= ty.greatest() {
+        number
+    } else {
+        wrap(ty, number)
+    }
+}
+
+/// The value of a number, wrapped to the type.
 #[inline(always)]
 pub(crate) fn wrapped(ty: Ty, number: i64) -> Value
     ensures { result ≡ typed ty (wrap ty number) }
 {
-    // Most numbers are of their type: they are spared a division.
-    let number = if ty.least() <= number && number <= ty.greatest() {
-        number
-    } else {
-        wrap(ty, number)
-    };
+    let number = wrapped_number(ty, number);
     Value { ty, number }
 }
 

@@ -104,12 +104,7 @@ impl Width for Signed8 {
     }
 
     fn wrapped(number: i64) -> i64 {
-        let residue = residue_8(number);
-        if residue > 127 {
-            residue - 256
-        } else {
-            residue
-        }
+        residue_8(residue_8(number) + 128) - 128
     }
 }
 
@@ -121,12 +116,7 @@ impl Width for Signed16 {
     }
 
     fn wrapped(number: i64) -> i64 {
-        let residue = residue_16(number);
-        if residue > 32_767 {
-            residue - 65_536
-        } else {
-            residue
-        }
+        residue_16(residue_16(number) + 32_768) - 32_768
     }
 }
 
@@ -138,11 +128,6 @@ impl Width for Signed32 {
     }
 
     fn wrapped(number: i64) -> i64 {
-        let residue = residue_32(number);
-        if residue > 2_147_483_647 {
-            residue - 4_294_967_296
-        } else {
-            residue
-        }
+        residue_32(residue_32(number) + 2_147_483_648) - 2_147_483_648
     }
 }
