@@ -100,7 +100,7 @@ def main():
         words = ["run", "slow.alg", "slow.plan", "slow.pgm", "out.pgm", "--workers", workers]
         status, said, took = on_terminal(words)
         tell(f"terminal {workers}", status == 0 and open("out.pgm", "rb").read() == whole, status)
-        if took > 2.6:
+        if took > 3.5:
             look_at(f"terminal {workers}", said, took)
     write(16)
     status, said, _ = on_terminal(["run", "slow.alg", "slow.plan", "slow.pgm", "out.pgm"])

@@ -58,3 +58,5 @@ pub mod FirstNumbers
 pub mod FewRooms
 pub mod Congruent
 pub mod SetRows
+mod UsualCalls
+pub mod LentCalls

@@ -4,6 +4,8 @@ mod evaluation;
 mod indices;
 mod kernels;
 mod lanes;
+mod lent_operands;
+mod lent_row;
 mod looking;
 mod operations;
 mod operators;
@@ -17,6 +19,7 @@ mod small_kernels;
 mod small_orders;
 mod small_widths;
 mod stop;
+mod usual_calls;
 mod usual_indices;
 mod whole;
 mod widths;
@@ -29,6 +32,7 @@ pub(crate) use kernels::{
     step_words,
 };
 pub use lanes::{ClampedRamp, Lanes, Number};
+pub use lent_row::LentRow;
 pub(crate) use looking::number_after;
 pub(crate) use operations::{
     Difference, Larger, Operator, Product, Quotient, Remainder, Smaller, Sum,

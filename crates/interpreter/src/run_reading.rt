@@ -15,8 +15,8 @@ ghost use Rattle.interpreter.specs.Runs.{numbers_at, IsBut};
 
 use crate::buffers::{Buffers, held_window};
 use crate::evaluation::{
-    ClampedRamp, Lanes, Number, RunReader, cast_words, clamped_number, number_after, step_words,
-    typed_number,
+    ClampedRamp, Lanes, LentRow, Number, RunReader, cast_words, clamped_number, number_after,
+    step_words, typed_number,
 };
 use crate::loads::{claim_of, is_named};
 use crate::piece::Piece;
@@ -24,7 +24,7 @@ use crate::reading::{Reading, numbers_bound};
 use crate::samples::{SampleRow, all_samples, put_samples, samples_among};
 use crate::scanlines::{
     Pixels, copy_words, distance, pixels_beside, put_pixels, sample_type, samples_beside,
-    take_numbers, take_pixels, take_samples, type_held,
+    take_numbers, take_pixels, take_samples, type_held, words_held,
 };
 use numeric::Ty;
 use plan::Coordinate;
@@ -259,6 +259,25 @@ impl RunReading<'_, '_> {
         Some(cast_words(ty, cast, out))
     }
 
+    /// The words of so many of a buffer's places whose first coordinate rises by one, where all hold values of one type and these stand
+    /// in words.
+    fn lend_place_row(
+        &self,
+        buffer: u64,
+        first: i64,
+        others: &[i64],
+        count: usize,
+    ) -> Option<LentRow<'_>>
+        ensures count { IfSome result (λ row. length row.words.now ≡ count) }
+        ensures value { IfSome result (λ row. (k : ℕ) → k < count → source_at self.now (memory_of self.now.memory.now) (Buffer buffer) ((first +ℤ pos k) ∷ others.now) ≡ Some (typed row.ty (word_at row.ty row.words.now k))) }
+    {
+        let line = self.memory.scanline(buffer, others)?;
+        let start = distance(line.origin, first)?;
+        let held = held_window(line.held, start, count)?;
+        let row = words_held(held)?;
+        Some(row)
+    }
+
     /// What a source has at a point, where that is of the type.
     fn find_number(&self, source: Source, ty: Ty, first: Number, others: &[i64]) -> Option<Number>
         ensures { IfSome result (λ n. source_at self.now (memory_of self.now.memory.now) source (first.value ∷ others.now) ≡ Some (typed ty n.value)) }
@@ -387,6 +406,20 @@ impl RunReader for RunReading<'_, '_> {
         match source {
             Source::Input => self.look_input_row(first, others, cast, out),
             Source::Buffer(buffer) => self.look_place_row(buffer, first, others, cast, out),
+        }
+    }
+
+    fn lend_row(
+        &self,
+        name: &str,
+        first: i64,
+        others: &[i64],
+        count: usize,
+    ) -> Option<LentRow<'_>> {
+        let source = self.source(name)?;
+        match source {
+            Source::Input => None,
+            Source::Buffer(buffer) => self.lend_place_row(buffer, first, others, count),
         }
     }
 

@@ -13,7 +13,7 @@ ghost use Rattle.interpreter.specs.Runs.{numbers_at, IsBut};
 ghost use Rattle.interpreter.specs.Updates.{bound_number, columns_at, update_number, update_numbers, variables_at};
 ghost use Rattle.plan.specs.View.{coordinate_of};
 
-use crate::evaluation::{Lanes, Number, RunReader, narrow_words};
+use crate::evaluation::{Lanes, LentRow, Number, RunReader, narrow_words};
 use crate::run_reading::{RunReading, lanes_of};
 use meaning::sameness::same_name;
 use numeric::Ty;
@@ -175,6 +175,16 @@ impl RunReader for UpdateReading<'_, '_> {
         out: &mut [u32],
     ) -> Option<Ty> {
         self.reading.look_row(name, first, others, cast, out)
+    }
+
+    fn lend_row(
+        &self,
+        name: &str,
+        first: i64,
+        others: &[i64],
+        count: usize,
+    ) -> Option<LentRow<'_>> {
+        self.reading.lend_row(name, first, others, count)
     }
 
     fn look_points(

@@ -22,7 +22,7 @@ use numeric::Ty;
 const SHORT_RUN: usize = 128;
 
 /// The number of lanes that have one value at all turns.
-fn fixed(lanes: Lanes) -> Option<i64>
+pub(crate) fn fixed(lanes: Lanes) -> Option<i64>
     ensures { IfSome result (λ z. (ws : List ℕ) (k : ℕ) → lane_number lanes ws k ≡ z) }
 {
     match lanes {
@@ -303,7 +303,7 @@ fn bends_of(ramp: ClampedRamp, count: usize) -> Option<Bends>
 
 /// What a name finds at the turns of a run, where the first index is a clamped ramp's number, which bends in them: along a row,
 /// before which and behind which it stays.
-fn look_bent<R: RunReader>(
+pub(crate) fn look_bent<R: RunReader>(
     name: &str,
     ramp: ClampedRamp,
     others: &[i64],

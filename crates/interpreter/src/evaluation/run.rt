@@ -12,9 +12,11 @@ ghost use Rattle.interpreter.specs.declared.evaluation.lanes.Lanes.TheVariants.{
 
 use crate::evaluation::kernels::{both_each, either_each, not_each};
 use crate::evaluation::lanes::{Lanes, Number};
+use crate::evaluation::lent_operands::{apply_lent, lent_operand};
 use crate::evaluation::looking::look_run;
 use crate::evaluation::repeats::repeat_of;
 use crate::evaluation::run_reader::RunReader;
+use crate::evaluation::usual_calls::usual_call;
 use crate::evaluation::usual_indices::usual_lanes;
 use crate::evaluation::whole::{
     apply_lanes, apply_repeated, choose_lanes, clamp_lanes, compare_lanes, negate_lanes, spread,
@@ -127,6 +129,10 @@ fn binary_run<R: RunReader>(
     let (other, rest) = rest.split_at_mut(out.len());
     if let Some(repeat) = repeat_of(*op, left, right) {
         let lanes = apply_repeated(*op, repeat, first, out, other)?;
+        return Some(lanes);
+    }
+    if let Some(words) = lent_operand(*op, right, type_of(first), reader, other) {
+        let lanes = apply_lent(*op, first, words, out)?;
         return Some(lanes);
     }
     let second = operand_run(right, reader, other, rest)?;
@@ -274,6 +280,9 @@ fn call_run<R: RunReader>(
 ) -> Option<Ty>
     ensures { IfSome result (λ t. (m : Memory ValueFound) → R.agrees reader.now m → FindsRun (length out.new) (Vector t) out.new (λ k. found_as cast (with (all_found (R.variables reader.now k) (R.look reader.now m) (indices (list_terms at.now))) (λ zs. R.look reader.now m name.now zs)))) }
 {
+    if let Some(ty) = usual_call(name, at, cast, reader, out) {
+        return Some(ty);
+    }
     if at.len() > 4 {
         return None;
     }

@@ -9,6 +9,7 @@ ghost use Rattle.interpreter.specs.Evaluation.Lanes.{found_as, lane, lanes_at, n
 ghost use Rattle.interpreter.specs.Evaluation.Words.{word_at};
 
 use crate::evaluation::lanes::{Lanes, Number};
+use crate::evaluation::lent_row::LentRow;
 use numeric::Ty;
 use tree::Value;
 
@@ -42,6 +43,12 @@ pub trait RunReader {
         out: &mut [u32],
     ) -> Option<Ty>
         ensures { IfSome result (λ t. (m : Memory ValueFound) → agrees self.now m → (k : ℕ) → k < length out.new → found_as cast (look self.now m name.now ((first +ℤ pos k) ∷ others.now)) ≡ Some (typed t (word_at t out.new k))) };
+
+    /// The words of as many turns, lent, where a call of a name finds values of one type that lie side by side in words: its first
+    /// index is this number at the first turn and one more at each turn after it, and these are the others.
+    fn lend_row(&self, name: &str, first: i64, others: &[i64], count: usize) -> Option<LentRow<'_>>
+        ensures count { IfSome result (λ row. length row.words.now ≡ count) }
+        ensures value { IfSome result (λ row. (m : Memory ValueFound) → agrees self.now m → (k : ℕ) → k < count → look self.now m name.now ((first +ℤ pos k) ∷ others.now) ≡ Some (typed row.ty (word_at row.ty row.words.now k))) };
 
     /// What a call of a name finds where each index may change from turn to turn: the registers have so many words as the
     /// list has numbers, one behind the other, for each index the next one.

@@ -14,7 +14,8 @@ use crate::evaluation::whole::{apply_whole, broadcast, clamp_whole};
 use tree::{Expr, Value};
 
 /// The value of an expression that is a literal.
-fn literal_value(expr: &Expr) -> Option<Value>
+#[inline(always)]
+pub(crate) fn literal_value(expr: &Expr) -> Option<Value>
     ensures { IfSome result (λ v. (vs : List ℕ → ℤ) (look : List ℕ → List ℤ → Option ValueFound) → found vs look (term_of expr.now) ≡ Some v) }
 {
     match expr {

@@ -39,7 +39,7 @@ pub(crate) fn type_of(lanes: Lanes) -> Ty
 
 /// The number of a value.
 #[inline(always)]
-fn number_of(value: Value) -> Number
+pub(crate) fn number_of(value: Value) -> Number
     ensures { result.value ≡ value.number }
 {
     Number {
@@ -193,7 +193,7 @@ fn is_of(ty: Ty, number: Number) -> bool
 }
 
 /// A ramp with the same number added at all turns, or taken away, where that is a ramp of its type.
-fn move_ramp(op: Op, left: Value, right: Value, count: usize) -> Option<Value>
+pub(crate) fn move_ramp(op: Op, left: Value, right: Value, count: usize) -> Option<Value>
     ensures narrow { IfSome result (λ v. IsShortRamp count v.number) }
     ensures lanes { IfSome result (λ v. (k : ℕ) → k < count → typed v.ty (v.number +ℤ pos k) ≡ applied op (typed left.ty (left.number +ℤ pos k)) right) }
 {

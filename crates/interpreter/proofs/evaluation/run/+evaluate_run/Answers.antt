@@ -74,7 +74,7 @@ pub call_run-loop-i-preserved : goal.call_run-loop-i-preserved
 call_run-loop-i-preserved g t c =
     let l = c.loop-i in
     let at = c.args.at.now in
-    let n = length c.args.out.now in
+    let n = length c.usual_call.new.out in
     let x = c.in_ok-lanes.field-0 in
     let new = c.index_run.new.registers in
     let long : l.i < length l.lanes = omega (arith, l.invariant.four) in
@@ -94,7 +94,7 @@ call_run-returns g t c =
     let at = c.args.at.now in
     let out = c.look_run.new.out in
     let i : l.i ≡ length at = omega arith in
-    let same : length c.args.out.now ≡ length out = omega arith in
+    let same : length c.usual_call.new.out ≡ length out = omega arith in
     if_some c.look_run.result
     (λ u. (m : Memory Value) → g.R.RunReader.agrees r m → (k : ℕ) → k < length out → found_as c.args.cast (g.R.RunReader.look r m name (lanes_at (length out) (take (length at) l.lanes) l.rest k)) ≡ Some (typed u (word_at u out k))) _
     (λ u h m ok k lt.
