@@ -3,3 +3,4 @@ pub mod Lanes
 pub mod Repeats
 pub mod Quotients
 pub mod Words
+pub mod Lending

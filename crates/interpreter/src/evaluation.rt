@@ -1,5 +1,6 @@
 //! The value of an expression where a call may find nothing.
 
+mod byte_kernels;
 mod evaluation;
 mod indices;
 mod kernels;
@@ -32,7 +33,7 @@ pub(crate) use kernels::{
     step_words,
 };
 pub use lanes::{ClampedRamp, Lanes, Number};
-pub use lent_row::LentRow;
+pub use lent_row::{LentNumbers, LentRow};
 pub(crate) use looking::number_after;
 pub(crate) use operations::{
     Difference, Larger, Operator, Product, Quotient, Remainder, Smaller, Sum,
@@ -42,6 +43,6 @@ pub use reader::Reader;
 pub use run::{evaluate_numbers, evaluate_run, evaluate_words};
 pub use run_reader::RunReader;
 pub use stop::Stop;
-pub(crate) use whole::cast_words;
+pub(crate) use whole::{cast_words, type_lent};
 pub(crate) use widths::{Signed8, Signed16, Signed32, Unsigned8, Unsigned16, Unsigned32, Width};
 pub(crate) use words::{low_word, typed_number, word_number};

@@ -9,22 +9,23 @@ ghost use Rattle.meaning.specs.Names.{bound};
 ghost use Rattle.interpreter.specs.Buffers.Blocks.{memory_of};
 ghost use Rattle.numeric.specs.declared.ty.Ty.TheVariants.{I32};
 ghost use Rattle.interpreter.specs.Evaluation.Lanes.{clamped_number, found_as, lane, lane_number, lanes_at, number_at, IsNarrowFor};
+ghost use Rattle.interpreter.specs.Evaluation.Lending.{lent};
 ghost use Rattle.interpreter.specs.Evaluation.Words.{bits_at, word_at};
 ghost use Rattle.interpreter.specs.Pieces.{around, no_cells};
 ghost use Rattle.interpreter.specs.Runs.{numbers_at, IsBut};
 
 use crate::buffers::{Buffers, held_window};
 use crate::evaluation::{
-    ClampedRamp, Lanes, LentRow, Number, RunReader, cast_words, clamped_number, number_after,
-    step_words, typed_number,
+    ClampedRamp, Lanes, LentNumbers, LentRow, Number, RunReader, cast_words, clamped_number,
+    number_after, step_words, type_lent, typed_number,
 };
 use crate::loads::{claim_of, is_named};
 use crate::piece::Piece;
 use crate::reading::{Reading, numbers_bound};
-use crate::samples::{SampleRow, all_samples, put_samples, samples_among};
+use crate::samples::{SampleRow, all_samples, bytes_of, put_samples, samples_among};
 use crate::scanlines::{
-    Pixels, copy_words, distance, pixels_beside, put_pixels, sample_type, samples_beside,
-    take_numbers, take_pixels, take_samples, type_held, words_held,
+    Pixels, copy_words, distance, pixels_beside, put_pixels, row_type, sample_type, samples_beside,
+    take_numbers, take_pixels, take_samples, type_held,
 };
 use numeric::Ty;
 use plan::Coordinate;
@@ -259,23 +260,51 @@ impl RunReading<'_, '_> {
         Some(cast_words(ty, cast, out))
     }
 
-    /// The words of so many of a buffer's places whose first coordinate rises by one, where all hold values of one type and these stand
-    /// in words.
+    /// The samples that an input of fewer dimensions has at so many points whose first coordinate rises by one, lent where they are
+    /// kept in one byte each and cast to a type.
+    fn lend_sample_row(
+        &self,
+        first: i64,
+        others: &[i64],
+        cast: Option<Ty>,
+        count: usize,
+    ) -> Option<LentRow<'_>>
+        ensures count { IfSome result (λ row. length (lent row.numbers) ≡ count) }
+        ensures value { IfSome result (λ row. (k : ℕ) → k < count → found_as cast (source_at self.now (memory_of self.now.memory.now) Input ((first +ℤ pos k) ∷ others.now)) ≡ Some (typed row.ty (word_at row.ty (lent row.numbers) k))) }
+    {
+        let ty = type_cast_to(cast)?;
+        let samples = self.samples(others)?;
+        let start = distance(0, first)?;
+        let row = samples_among(samples, start, count)?;
+        let bytes = bytes_of(row)?;
+        Some(LentRow {
+            ty,
+            numbers: LentNumbers::Bytes(bytes),
+        })
+    }
+
+    /// The words of so many of a buffer's places whose first coordinate rises by one, lent where all hold values of one type and these
+    /// stand in words that are as well words of the type that they are cast to, if there is one.
     fn lend_place_row(
         &self,
         buffer: u64,
         first: i64,
         others: &[i64],
+        cast: Option<Ty>,
         count: usize,
     ) -> Option<LentRow<'_>>
-        ensures count { IfSome result (λ row. length row.words.now ≡ count) }
-        ensures value { IfSome result (λ row. (k : ℕ) → k < count → source_at self.now (memory_of self.now.memory.now) (Buffer buffer) ((first +ℤ pos k) ∷ others.now) ≡ Some (typed row.ty (word_at row.ty row.words.now k))) }
+        ensures count { IfSome result (λ row. length (lent row.numbers) ≡ count) }
+        ensures value { IfSome result (λ row. (k : ℕ) → k < count → found_as cast (source_at self.now (memory_of self.now.memory.now) (Buffer buffer) ((first +ℤ pos k) ∷ others.now)) ≡ Some (typed row.ty (word_at row.ty (lent row.numbers) k))) }
     {
         let line = self.memory.scanline(buffer, others)?;
         let start = distance(line.origin, first)?;
         let held = held_window(line.held, start, count)?;
-        let row = words_held(held)?;
-        Some(row)
+        let own = row_type(held.marks)?;
+        let ty = type_lent(own, cast)?;
+        Some(LentRow {
+            ty,
+            numbers: LentNumbers::Words(held.words),
+        })
     }
 
     /// What a source has at a point, where that is of the type.
@@ -414,12 +443,13 @@ impl RunReader for RunReading<'_, '_> {
         name: &str,
         first: i64,
         others: &[i64],
+        cast: Option<Ty>,
         count: usize,
     ) -> Option<LentRow<'_>> {
         let source = self.source(name)?;
         match source {
-            Source::Input => None,
-            Source::Buffer(buffer) => self.lend_place_row(buffer, first, others, count),
+            Source::Input => self.lend_sample_row(first, others, cast, count),
+            Source::Buffer(buffer) => self.lend_place_row(buffer, first, others, cast, count),
         }
     }
 
@@ -432,6 +462,16 @@ impl RunReader for RunReading<'_, '_> {
     ) -> Option<Ty> {
         let source = self.source(name)?;
         self.gather(source, indices, registers, out)
+    }
+}
+
+/// The type that something is cast to.
+fn type_cast_to(cast: Option<Ty>) -> Option<Ty>
+    ensures { IfSome result (λ t. cast ≡ Some t) }
+{
+    match cast {
+        Some(ty) => Some(ty),
+        None => None,
     }
 }
 

@@ -38,6 +38,16 @@ pub(crate) fn samples_among(row: SampleRow<'_>, start: usize, count: usize) -> O
     }
 }
 
+/// The samples, where they are kept in one byte each.
+pub(crate) fn bytes_of(row: SampleRow<'_>) -> Option<&[u8]>
+    ensures { IfSome result (λ bytes. bytes.now ≡ sampled row.entry) }
+{
+    match row {
+        SampleRow::Bytes(bytes) => Some(bytes),
+        SampleRow::Words(_) => None,
+    }
+}
+
 /// How many samples there are.
 pub(crate) fn sample_count(row: SampleRow<'_>) -> usize
     ensures { result ≡ length (sampled row.entry) }

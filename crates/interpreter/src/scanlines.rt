@@ -12,7 +12,7 @@ ghost use Rattle.interpreter.specs.SampleRows.{sampled};
 ghost use Rattle.interpreter.specs.Scanlines.{along, input_at, pixel_along, sample_along};
 
 use crate::buffers::{Held, Mark, held_at, narrow_mark, narrow_type};
-use crate::evaluation::{LentRow, Number, copy_each};
+use crate::evaluation::{Number, copy_each};
 use crate::samples::{SampleRow, put_colour, sample_count, sample_of, samples_among};
 use numeric::Ty;
 
@@ -372,16 +372,4 @@ pub(crate) fn copy_words(held: Held<'_>, ty: Ty, out: &mut [u32]) -> Option<()>
     }
     copy_each(held.words, out);
     Some(())
-}
-
-/// The words of places, where all hold values of one type and these stand in words.
-pub(crate) fn words_held(held: Held<'_>) -> Option<LentRow<'_>>
-    ensures same { IfSome result (λ row. row.words.now ≡ held.entry.words.now) }
-    ensures value { IfSome result (λ row. (k : ℕ) → k < length held.entry.marks.now → along (places_held held.entry) (pos k) ≡ Some (Some (typed row.ty (word_at row.ty row.words.now k)))) }
-{
-    let ty = row_type(held.marks)?;
-    Some(LentRow {
-        ty,
-        words: held.words,
-    })
 }

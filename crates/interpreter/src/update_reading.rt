@@ -182,9 +182,10 @@ impl RunReader for UpdateReading<'_, '_> {
         name: &str,
         first: i64,
         others: &[i64],
+        cast: Option<Ty>,
         count: usize,
     ) -> Option<LentRow<'_>> {
-        self.reading.lend_row(name, first, others, count)
+        self.reading.lend_row(name, first, others, cast, count)
     }
 
     fn look_points(

@@ -1,10 +1,19 @@
-//! Rows of words that a reader lends.
+//! Rows of numbers that a reader lends.
 
 use numeric::Ty;
 
-/// Words side by side, each of which is a number of the type. They lie where they are kept, so nothing is copied.
+/// Numbers side by side that lie where they are kept, so that nothing is copied.
+#[derive(Clone, Copy, Drop)]
+pub enum LentNumbers<'a> {
+    /// In words.
+    Words(&'a [u32]),
+    /// In one byte each.
+    Bytes(&'a [u8]),
+}
+
+/// Numbers side by side, each of which is a number of the type as the words of registers are.
 #[derive(Clone, Copy, Drop)]
 pub struct LentRow<'a> {
     pub ty: Ty,
-    pub words: &'a [u32],
+    pub numbers: LentNumbers<'a>,
 }

@@ -131,8 +131,8 @@ fn binary_run<R: RunReader>(
         let lanes = apply_repeated(*op, repeat, first, out, other)?;
         return Some(lanes);
     }
-    if let Some(words) = lent_operand(*op, right, type_of(first), reader, other) {
-        let lanes = apply_lent(*op, first, words, out)?;
+    if let Some(numbers) = lent_operand(*op, right, type_of(first), reader, other) {
+        let lanes = apply_lent(*op, first, numbers, out)?;
         return Some(lanes);
     }
     let second = operand_run(right, reader, other, rest)?;

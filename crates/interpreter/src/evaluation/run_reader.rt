@@ -6,6 +6,7 @@ ghost use Rattle.tree.specs.declared.value.Value.{Value as ValueFound};
 ghost use Rattle.tree.specs.Meaning.{typed};
 ghost use Rattle.plan.specs.Semantics.Memory.{Memory};
 ghost use Rattle.interpreter.specs.Evaluation.Lanes.{found_as, lane, lanes_at, number_at, IsNarrowFor};
+ghost use Rattle.interpreter.specs.Evaluation.Lending.{lent};
 ghost use Rattle.interpreter.specs.Evaluation.Words.{word_at};
 
 use crate::evaluation::lanes::{Lanes, Number};
@@ -44,11 +45,18 @@ pub trait RunReader {
     ) -> Option<Ty>
         ensures { IfSome result (λ t. (m : Memory ValueFound) → agrees self.now m → (k : ℕ) → k < length out.new → found_as cast (look self.now m name.now ((first +ℤ pos k) ∷ others.now)) ≡ Some (typed t (word_at t out.new k))) };
 
-    /// The words of as many turns, lent, where a call of a name finds values of one type that lie side by side in words: its first
-    /// index is this number at the first turn and one more at each turn after it, and these are the others.
-    fn lend_row(&self, name: &str, first: i64, others: &[i64], count: usize) -> Option<LentRow<'_>>
-        ensures count { IfSome result (λ row. length row.words.now ≡ count) }
-        ensures value { IfSome result (λ row. (m : Memory ValueFound) → agrees self.now m → (k : ℕ) → k < count → look self.now m name.now ((first +ℤ pos k) ∷ others.now) ≡ Some (typed row.ty (word_at row.ty row.words.now k))) };
+    /// The numbers at so many turns, lent, where what a call of a name finds lies side by side: its first index is this number at
+    /// the first turn and one more at each turn after it, and these are the others; cast to the type, if there is one.
+    fn lend_row(
+        &self,
+        name: &str,
+        first: i64,
+        others: &[i64],
+        cast: Option<Ty>,
+        count: usize,
+    ) -> Option<LentRow<'_>>
+        ensures count { IfSome result (λ row. length (lent row.numbers) ≡ count) }
+        ensures value { IfSome result (λ row. (m : Memory ValueFound) → agrees self.now m → (k : ℕ) → k < count → found_as cast (look self.now m name.now ((first +ℤ pos k) ∷ others.now)) ≡ Some (typed row.ty (word_at row.ty (lent row.numbers) k))) };
 
     /// What a call of a name finds where each index may change from turn to turn: the registers have so many words as the
     /// list has numbers, one behind the other, for each index the next one.

@@ -379,6 +379,17 @@ pub(crate) fn wraps_alike(own: Ty, ty: Ty) -> bool
     ty.bits() <= own.bits()
 }
 
+/// The type of which words of this type are, cast to a type, if there is one: nothing where they are words of another number then.
+pub(crate) fn type_lent(own: Ty, cast: Option<Ty>) -> Option<Ty>
+    ensures { IfSome result (λ t. (z : ℤ) → typed t (wrap t z) ≡ taken_as cast (typed own (wrap own z))) }
+{
+    match cast {
+        None => Some(own),
+        Some(ty) if wraps_alike(own, ty) => Some(ty),
+        Some(_) => None,
+    }
+}
+
 /// The words of a type, so that this type makes of each what its number wraps to. A type of no more bits makes that of them as they are.
 fn recast_words(own: Ty, ty: Ty, out: &mut [u32])
     ensures { (k : ℕ) → k < length out.new → word_at ty out.new k ≡ wrap ty (word_at own out.old k) }

@@ -1,20 +1,10 @@
-use Rattle.std.proofs.Common.{ℕ, List, Option, Some, sym, ap, ◌∙◌}
-use Rattle.plan.specs.Semantics.Found.{found, with, all_found}
-use Rattle.tree.specs.declared.expr.Expr.{Expr}
-use Rattle.tree.specs.declared.value.Value.{Value}
+use Rattle.std.proofs.Common.{Some, sym, ◌∙◌}
 use Rattle.tree.specs.Meaning.{typed}
-use Rattle.tree.specs.Term.{term_of, list_terms, indices}
 use Rattle.interpreter.specs.Evaluation.Words.{word_at}
-use Rattle.interpreter.proofs.FoundRuns.{found_call}
 use Rattle.interpreter.proofs.evaluation.lent_operands.lent_operand.Goals as goal
 
 pub returns-clause-value : goal.returns-clause-value
 returns-clause-value g c = λ m ok k lt.
-    let vs = g.R.RunReader.variables c.args.reader.now k in
-    let look = g.R.RunReader.look c.args.reader.now m in
-    let called : (n : List ℕ) (l : List Expr) → Option Value = λ n l. with (all_found vs look (indices (list_terms l))) (λ zs. look n zs) in
-    ap (λ (e : Expr). found vs look (term_of e)) c.in-Call.is
-    ∙ found_call vs look c.in-Call.name c.in-Call.at c.in-Call.span
-    ∙ (λ i. called (sym c.as_str.ensures.value i) (sym c.deref.ensures.value i))
-    ∙ c.in_ok-row.ensures.value m ok k lt
-    ∙ (λ i. Some (typed (c.in_ok-words.ensures.ty i) (word_at (c.in_ok-words.ensures.ty i) (sym c.in_ok-words.ensures.words i) k)))
+    let ty = c.in_ok-numbers.ensures.ty in
+    c.in_ok-row.ensures.value m ok k lt
+    ∙ (λ i. Some (typed (ty i) (word_at (ty i) (sym c.in_ok-numbers.ensures.numbers i) k)))

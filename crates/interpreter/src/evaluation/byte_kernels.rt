@@ -1,0 +1,29 @@
+//! The same operators, for which the type is no matter, over bytes.
+
+ghost use Rattle.std.specs.Prelude.{◌≡◌, ◌<◌, ℕ, length};
+ghost use Rattle.numeric.specs.declared.ty.Ty.{Ty as TyFound};
+ghost use Rattle.numeric.specs.Apply.{apply};
+ghost use Rattle.interpreter.specs.Evaluation.Words.{word_at};
+
+use crate::evaluation::lanes::Number;
+use crate::evaluation::residue_kernels::ResidueOperator;
+
+/// The operator on each word and a byte.
+pub(crate) fn apply_bytes<O: ResidueOperator>(out: &mut [u32], right: &[u8])
+    requires { length right.now ≡ length out.old }
+    ensures { (t : TyFound) (k : ℕ) → k < length out.new → word_at t out.new k ≡ apply O.op t (word_at t out.old k) (word_at t right.now k) }
+{
+    for turn in 0..out.len() {
+        out[turn] = O::residue(i64::from(out[turn]), i64::from(right[turn]));
+    }
+}
+
+/// The operator on one number and each byte, put into a register.
+pub(crate) fn apply_bytes_to<O: ResidueOperator>(left: Number, right: &[u8], out: &mut [u32])
+    requires { length right.now ≡ length out.old }
+    ensures { (t : TyFound) (k : ℕ) → k < length out.new → word_at t out.new k ≡ apply O.op t left.value (word_at t right.now k) }
+{
+    for turn in 0..out.len() {
+        out[turn] = O::residue(left.value, i64::from(right[turn]));
+    }
+}
