@@ -123,7 +123,8 @@ has_sent_wide old mid new samples i inside small h g =
     subst (HasSentSamples (sample_bytes U16) old new samples) (drop-drop 1 i samples) part
 
 -- the samples up to a place have gone out, and the one at it fails
-pub sends_wide : (old mid new : Option (List ℕ)) (samples : List ℕ) (i : ℕ) (e : PnmError) → i < length samples → get_or samples i 0 < 256 → HasSentSamples (sample_bytes U16) old mid samples (drop i samples)
+pub sends_wide : (old mid new : Option (List ℕ)) (samples : List ℕ) (i : ℕ) (e : PnmError) → i < length samples → get_or samples i 0 < 256
+    → HasSentSamples (sample_bytes U16) old mid samples (drop i samples)
     → Sends mid new (0 ∷ get_or samples i 0 ∷ []) (Err e) → Sends old new (flat_map (sample_bytes U16) samples) (Err e)
 sends_wide old mid new samples i e inside small h g =
     sends_part (sample_bytes U16) old mid new samples (drop i samples) 1 e h (subst (λ bytes. Sends mid new bytes (Err e)) (sym (one_wide samples i inside small)) g)
