@@ -31,10 +31,10 @@ pub returns-in-Some-clause-file : goal.returns-in-Some-clause-file
 returns-in-Some-clause-file g c =
     let read = c.loop-turn.invariant.0 in
     c.read_bytes.ensures.file c.args.wanted.now (g.S.Source.remaining c.args.source.now) read.bytes read.takes
-      (read.leads ∙ begins c.loop-turn.state (in_raster c.in-Some.count) c.loop-turn.samples.items [] c.in-Some.ensures.0 (sym c.as_slice.ensures.value ∙ c.in-Some.ensures.1))
+    (read.leads ∙ begins c.loop-turn.state (in_raster c.in-Some.count) c.loop-turn.samples.items [] c.in-Some.ensures.0 (sym c.as_slice.ensures.value ∙ c.in-Some.ensures.1))
 
 pub returns-in-Some-clause-refusal : goal.returns-in-Some-clause-refusal
 returns-in-Some-clause-refusal g c =
     let read = c.loop-turn.invariant.0 in
     c.read_bytes.ensures.refusal c.args.wanted.now (g.S.Source.remaining c.args.source.now) read.bytes read.takes
-      (read.leads ∙ begins c.loop-turn.state (in_raster c.in-Some.count) c.loop-turn.samples.items [] c.in-Some.ensures.0 (sym c.as_slice.ensures.value ∙ c.in-Some.ensures.1))
+    (read.leads ∙ begins c.loop-turn.state (in_raster c.in-Some.count) c.loop-turn.samples.items [] c.in-Some.ensures.0 (sym c.as_slice.ensures.value ∙ c.in-Some.ensures.1))

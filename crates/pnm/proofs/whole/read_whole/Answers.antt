@@ -9,7 +9,7 @@ returns-in-Ok-clause-file c =
     let w = wanted_of (shape_of c.args.shape.now) in
     let at = c.in-Some.at in
     let found : reading w c.as_slice.result.now ≡ Ok (drop at c.as_slice.result.now) =
-        subst (λ v. reading v c.as_slice.result.now ≡ Ok (drop at c.as_slice.result.now)) c.wanted.ensures c.in-Some.ensures.1 in
+    subst (λ v. reading v c.as_slice.result.now ≡ Ok (drop at c.as_slice.result.now)) c.wanted.ensures c.in-Some.ensures.1 in
     subst (λ bytes. reading w bytes ≡ Ok (drop at bytes)) c.as_slice.ensures.value found ∙ ap Ok (sym c.from_place.ensures)
 
 pub returns-in-Err-clause-refusal : goal.returns-in-Err-clause-refusal

@@ -22,7 +22,7 @@ returns-in_err-send-clause-bytes g c =
     let start = magic (has_colours image.extents.items) in
     let header = numbers image.ty image.extents.items in
     sends_failed old new _ c.from_residual.result p.0 e p.1 p.2
-      (sends_first old new (start ++ header) (flat_map (sample_bytes image.ty) (numbers_kept image.samples)) e (sends_first old new start header e first))
+    (sends_first old new (start ++ header) (flat_map (sample_bytes image.ty) (numbers_kept image.samples)) e (sends_first old new start header e first))
 
 pub returns-in_err-send_numbers-clause-bytes : goal.returns-in_err-send_numbers-clause-bytes
 returns-in_err-send_numbers-clause-bytes g c =
