@@ -6,7 +6,7 @@
 Each command is run on examples, once without a fault, and then with one fault at a time: each growth refused (`memory`), each
 call of a file or a stream failed, cut short or moving nothing (`device`), each thread refused (`thread`), the program ended at
 each call (`kill`) or by a limit on the size of files (`size`), and two runs that write one file at once (`together`). Of `run` it can be
-asked besides that no growth comes behind its last worker's start (`late`, where it is named). Of all
+asked besides that no growth comes behind its last worker's start, where one starts (`late`, where it is named). Of all
 faults a part that the seed chooses is tried, with `--all` all of them. Right is the answer without the fault, or a refusal that
 names the fault and leaves every file as it was. It tells how many came out in which way, and ends with `N passed, M failed`.
 
@@ -286,7 +286,7 @@ def faults(case, kinds):
     if "size" in kinds and "out" in case.words:
         for size in (0, 1, 10):
             yield Fault("size", f"files of {size} bytes at most", {"size": size})
-    if "late" in kinds and "--workers" in case.words:
+    if "late" in kinds and "--workers" in case.words and case.counts["thread"]:
         yield Fault("late", "growths behind the last worker's start", {})
     if "together" in kinds and "out" in case.words and case.right.status == 0:
         for number in range(4):
