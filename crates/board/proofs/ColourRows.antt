@@ -1,8 +1,10 @@
 -- Rows of cells of one colour, whose samples stand each as many places behind the one before as there are colours.
-use Rattle.std.proofs.Common.{◌≡◌, ◌≢◌, ◌⊎◌, ℕ, ◌+◌, ◌-◌, ◌*◌, ◌<◌, ◌≤◌, ℤ, List, length, get_or, set, inl, inr, refl, sym, ap, subst, ◌∙◌, arith, get_or-set_same, get_or-set_other}
+use Rattle.std.proofs.Common.{◌≡◌, ◌≢◌, ◌⊎◌, ℕ, ◌+◌, ◌-◌, ◌*◌, ◌<◌, ◌≤◌, ℤ, List, ◌++◌, length, get_or, set, inl, inr, refl, sym, ap, subst, ◌∙◌, arith, get_or-set_same, get_or-set_other}
 use Rattle.std.specs.Prelude.{slice_index}
 use Rattle.std.proofs.Math.Nat.{add-mul, mul-le-mul_right}
 use Rattle.std.proofs.lemmas.Bool.{cases_lt}
+use Rattle.std.proofs.Math.Seq.{get_or-append_right}
+use Rattle.std.proofs.Math.ListN.{get_or-append}
 use Rattle.board.specs.Kept.{all_bits, in_planes, sample_place, AreWritten}
 use Rattle.board.specs.Seen.{place_of_cell, HasSample, HasSamples, LiesIn, StaysShown}
 use Rattle.board.specs.Sheets.{AreOfRow, HasBits, HasRow}
@@ -28,6 +30,33 @@ one_written numbers from n place step v old now some room is had = record {
         (get_or-set_same now (place + n * step) v 0 room ∙ is)
   ];
   others = λ i apart. get_or-set_other now (place + n * step) i v 0 (apart n (omega arith)) ∙ had.others i (λ k lt. apart k (omega (arith, lt)));
+}
+
+-- a row of numbers is put in place of as many
+pub row_copied : (numbers front was row back : List ℕ) (from count place : ℕ) → length front ≡ place → length was ≡ count → length row ≡ count
+    → ((k : ℕ) → k < count → slice_index row k ≡ slice_index numbers (from + k)) → AreWritten numbers from count place 1 (front ++ (was ++ back)) (front ++ (row ++ back))
+row_copied numbers front was row back from count place ahead old long is = record {
+  there = λ k lt.
+      let at : place + k * 1 ≡ length front + k = omega (arith, ahead) in
+      let behind : length front + k - length front ≡ k = omega arith in
+      ap (λ (i : ℕ). get_or (front ++ (row ++ back)) i 0) at
+      ∙ get_or-append_right front (row ++ back) (length front + k) 0 (omega arith)
+      ∙ ap (λ (i : ℕ). get_or (row ++ back) i 0) behind
+      ∙ get_or-append row back 0 k (omega (arith, lt, long))
+      ∙ is k lt;
+  others = λ i apart. elim (cases_lt i (length front)) [
+    | inl before ↦ get_or-append front (row ++ back) 0 i before ∙ sym (get_or-append front (was ++ back) 0 i before)
+    | inr past ↦
+        let j : ℕ = i - length front in
+        let beyond : count ≤ j = elim (cases_lt j count) [
+          | inl within ↦ absurd (apart j within (omega (arith, past, ahead)))
+          | inr beyond ↦ beyond
+        ] in
+        get_or-append_right front (row ++ back) i 0 past
+        ∙ get_or-append_right row back j 0 (omega (arith, beyond, long))
+        ∙ (λ t. get_or back (j - (long ∙ sym old) t) 0)
+        ∙ sym (get_or-append_right front (was ++ back) i 0 past ∙ get_or-append_right was back j 0 (omega (arith, beyond, old)))
+  ];
 }
 
 -- behind n other cells, a row of cells of one colour of these planes, of which the first has this pixel and this colour

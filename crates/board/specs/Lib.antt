@@ -1,3 +1,4 @@
+pub mod CellBits
 pub mod Layout
 pub mod Words
 pub mod Views

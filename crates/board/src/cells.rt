@@ -2,12 +2,14 @@
 
 ghost use Rattle.std.specs.Prelude.{◌≡◌, ℕ, ◌+◌, ◌^◌, ◌<◌, ◌≤◌, drop, length, slice_index, take, Contains, IfSome};
 ghost use Rattle.std.specs.Bool.{OnTrue};
+ghost use Rattle.board.specs.CellBits.{bits_in};
 ghost use Rattle.board.specs.Kept.{in_planes, AreSamples};
 ghost use Rattle.board.specs.Layout.{own_of, pieces_of, value_at, IsSound};
 ghost use Rattle.board.specs.Seen.{place_of_cell, seen_bits, IsShown, NoneShown, StaysShown};
 ghost use Rattle.board.specs.Sheets.{bits_at, IsPutCell};
 ghost use Rattle.board.specs.Words.{bits_of};
 
+use crate::cell_bits::CellBits;
 use crate::kept::{bits_of_cell, sample_place};
 use crate::law::Run;
 use crate::putting::{PART, follow_each_other};
@@ -92,9 +94,9 @@ impl<'s, 'a, J: Run> SheetCells<'s, 'a, J> {
 
     /// Writes the values of all own cells of a piece, whose bits these are, into a part of the picture's samples, which begins at this place of all, where it
     /// has the samples of all of them. Else it says no, and may have written some of them. What cells of the part had they have still.
-    pub fn show(&self, piece: u32, bits: &[u32], part: &mut [u8], from: usize) -> bool
+    pub fn show(&self, piece: u32, bits: CellBits<'_>, part: &mut [u8], from: usize) -> bool
         requires piece { piece < pieces_of J.layout }
-        requires bits { bits.now ≡ bits_at J.values (own_of J.layout piece) }
+        requires bits { bits_in bits ≡ bits_at J.values (own_of J.layout piece) }
         requires short { from + length part.old < 2 ^ 32 }
         ensures shown { OnTrue result (IsShown J.layout J.values self.now from part.new piece) }
         ensures more { StaysShown self.now.planes (length self.now.bits) J.values from part.old part.new }

@@ -7,6 +7,7 @@
 
 mod board;
 mod bytes;
+mod cell_bits;
 mod cells;
 mod kept;
 mod law;
@@ -21,6 +22,7 @@ mod source;
 mod view;
 
 pub use board::{Board, SeatError, Unfinished};
+pub use cell_bits::CellBits;
 pub use cells::SheetCells;
 pub use law::{Law, Run};
 pub use seat::{BoardSeat, Ticket};

@@ -4,10 +4,12 @@
 
 ghost use Rattle.std.specs.Prelude.{◌≡◌, ◌+◌, ◌-◌, ◌*◌, ◌^◌, ◌<◌, ◌≤◌, ℕ, length, slice_index};
 ghost use Rattle.std.specs.Bool.{OnTrue};
+ghost use Rattle.board.specs.CellBits.{bits_in};
 ghost use Rattle.board.specs.Kept.{all_bits, in_planes, AreSamples, FollowEachOther};
 ghost use Rattle.board.specs.Sheets.{bits_at, AreOfRow, HasBits, HasRow};
 
 use crate::bytes::write_each;
+use crate::cell_bits::CellBits;
 use crate::kept::pixel_of;
 use crate::law::Run;
 use crate::source::Planes;
@@ -35,8 +37,8 @@ pub(crate) fn follow_each_other(cells: &[u32], from: usize, to: usize) -> bool
     following as usize == to - from
 }
 
-// Puts a row of cells that are kept as bits.
-fn put_as_bits<J: Run>(
+// Puts a row of cells that are kept as bits, by words.
+fn put_words<J: Run>(
     bits_now: &mut [u32],
     samples: &[u8],
     planes: Planes,
@@ -57,21 +59,70 @@ fn put_as_bits<J: Run>(
     }
 }
 
+// Puts a row of cells that are kept as bits, by bytes.
+fn put_bytes<J: Run>(
+    bits_now: &mut [u32],
+    samples: &[u8],
+    planes: Planes,
+    first: usize,
+    values: &[u8],
+    from: usize,
+    count: usize,
+)
+    requires values { from + count ≤ length values.now }
+    requires few { from + count < 2 ^ 32 }
+    requires row { AreOfRow J.values values.now from first count }
+    requires inside { first + count ≤ length bits_now.old }
+    ensures put { HasRow J.values (all_bits planes bits_now.new samples.now) first count }
+    ensures more { (c : ℕ) → HasBits J.values (all_bits planes bits_now.old samples.now) c → HasBits J.values (all_bits planes bits_now.new samples.now) c }
+{
+    for more in 0..count {
+        bits_now[first + more] = u32::from(values[from + more]);
+    }
+}
+
+// Puts a row of cells that are kept as bits.
+fn put_as_bits<J: Run>(
+    bits_now: &mut [u32],
+    samples: &[u8],
+    planes: Planes,
+    first: usize,
+    values: CellBits<'_>,
+    from: usize,
+    count: usize,
+)
+    requires values { from + count ≤ length (bits_in values) }
+    requires few { from + count < 2 ^ 32 }
+    requires row { AreOfRow J.values (bits_in values) from first count }
+    requires inside { first + count ≤ length bits_now.old }
+    ensures put { HasRow J.values (all_bits planes bits_now.new samples.now) first count }
+    ensures more { (c : ℕ) → HasBits J.values (all_bits planes bits_now.old samples.now) c → HasBits J.values (all_bits planes bits_now.new samples.now) c }
+{
+    match values {
+        CellBits::Bytes(values) => {
+            put_bytes::<J>(bits_now, samples, planes, first, values, from, count);
+        }
+        CellBits::Words(values) => {
+            put_words::<J>(bits_now, samples, planes, first, values, from, count);
+        }
+    }
+}
+
 // Puts a row of cells that are kept as samples of one colour. The first has this pixel and this colour.
 fn put_as_samples<J: Run>(
     bits_now: &[u32],
     samples: &mut [u8],
     planes: Planes,
     first: usize,
-    values: &[u32],
+    values: CellBits<'_>,
     from: usize,
     count: usize,
     pixel: usize,
     colour: usize,
 )
-    requires values { from + count ≤ length values.now }
+    requires values { from + count ≤ length (bits_in values) }
     requires few { from + count < 2 ^ 32 }
-    requires row { AreOfRow J.values values.now from first count }
+    requires row { AreOfRow J.values (bits_in values) from first count }
     requires inside { first + count ≤ length bits_now.now + in_planes planes }
     requires fits { in_planes planes ≤ length samples.old }
     requires samples { AreSamples J.values (length bits_now.now) (length bits_now.now + in_planes planes) }
@@ -91,14 +142,14 @@ fn put_alike<J: Run>(
     samples: &mut [u8],
     planes: Planes,
     first: usize,
-    values: &[u32],
+    values: CellBits<'_>,
     from: usize,
     count: usize,
 ) -> usize
     requires some { 0 < count }
-    requires values { from + count ≤ length values.now }
+    requires values { from + count ≤ length (bits_in values) }
     requires few { from + count < 2 ^ 32 }
-    requires row { AreOfRow J.values values.now from first count }
+    requires row { AreOfRow J.values (bits_in values) from first count }
     requires inside { first + count ≤ length bits_now.old + in_planes planes }
     requires fits { in_planes planes ≤ length samples.old }
     requires samples { AreSamples J.values (length bits_now.old) (length bits_now.old + in_planes planes) }
@@ -125,13 +176,13 @@ fn put_row<J: Run>(
     samples: &mut [u8],
     planes: Planes,
     first: usize,
-    values: &[u32],
+    values: CellBits<'_>,
     from: usize,
     count: usize,
 )
-    requires values { from + count ≤ length values.now }
+    requires values { from + count ≤ length (bits_in values) }
     requires few { from + count < 2 ^ 32 }
-    requires row { AreOfRow J.values values.now from first count }
+    requires row { AreOfRow J.values (bits_in values) from first count }
     requires inside { 0 < count → first + count ≤ length bits_now.old + in_planes planes }
     requires fits { in_planes planes ≤ length samples.old }
     requires samples { AreSamples J.values (length bits_now.old) (length bits_now.old + in_planes planes) }
@@ -158,9 +209,9 @@ pub(crate) fn put_bits<J: Run>(
     samples: &mut [u8],
     planes: Planes,
     cells: &CellRuns,
-    values: &[u32],
+    values: CellBits<'_>,
 )
-    requires values { values.now ≡ bits_at J.values cells.now }
+    requires values { bits_in values ≡ bits_at J.values cells.now }
     requires inside { (k : ℕ) → k < length cells.now → slice_index cells.now k < length bits_now.old + in_planes planes }
     requires fits { in_planes planes ≤ length samples.old }
     requires samples { AreSamples J.values (length bits_now.old) (length bits_now.old + in_planes planes) }

@@ -2,11 +2,13 @@
 
 ghost use Rattle.std.specs.Prelude.{◌≡◌, ℕ, ◌+◌, ◌^◌, ◌<◌, ◌≤◌, ◌++◌, [], length, vec_capacity};
 ghost use Rattle.meaning.specs.Image.View.{numbers};
+ghost use Rattle.board.specs.CellBits.{bits_in};
 ghost use Rattle.board.specs.Kept.{all_bits, in_planes, planes_of, Keeps};
 ghost use Rattle.board.specs.Layout.{picture_of, pieces_of, IsSound, ShowsSamples};
 ghost use Rattle.board.specs.Seen.{beside, seen_bits, Seen};
 ghost use Rattle.board.specs.Sheets.{IsPut};
 
+use crate::cell_bits::CellBits;
 use crate::cells::SheetCells;
 use crate::kept::{Kept, kept_as};
 use crate::law::Run;
@@ -49,6 +51,7 @@ impl<'a, J: Run> Model for Sheet<'a, J> {
 
 impl<'a, J: Run> Sheet<'a, J> {
     ghost use Rattle.meaning.specs.Image.View.{image_of};
+    ghost use Rattle.board.specs.CellBits.{bits_in};
     ghost use Rattle.board.specs.Layout.{own_of, picture_of, pieces_of, ShowsSamples};
     ghost use Rattle.board.specs.Sheets.{bits_at, IsPut};
 
@@ -134,9 +137,9 @@ impl<'a, J: Run> Sheet<'a, J> {
     }
 
     /// Puts the bits of the values of all own cells of a piece. What is put stays.
-    pub fn put(&mut self, piece: u32, kept: &[u32])
+    pub fn put(&mut self, piece: u32, kept: CellBits<'_>)
         requires piece { piece < pieces_of J.layout }
-        requires kept { kept.now ≡ bits_at J.values (own_of J.layout piece) }
+        requires kept { bits_in kept ≡ bits_at J.values (own_of J.layout piece) }
         ensures put { IsPut J.layout J.values self.new piece }
         ensures more { (j : ℕ) → IsPut J.layout J.values self.old j → IsPut J.layout J.values self.new j }
     {
@@ -261,13 +264,38 @@ fn with_bits(mut kept: Vec<u32>, bits: &[u32]) -> Vec<u32>
     kept
 }
 
-/// Keeps the bits of values apart from any sheet, in an empty list that has room for them. It takes no memory.
-pub fn keep_bits(bits: &[u32], kept: &mut Vec<u32>)
+// The same by bytes.
+#[inline(never)]
+fn with_bytes(mut kept: Vec<u32>, bytes: &[u8]) -> Vec<u32>
+    requires { length kept.items + length bytes.now ≤ vec_capacity kept }
+    ensures items { result.items ≡ kept.items ++ bytes.now }
+    ensures room { vec_capacity result ≡ vec_capacity kept }
+{
+    for byte in bytes {
+        kept.push_reserved(u32::from(*byte));
+    }
+    kept
+}
+
+// The same by either kind.
+fn with_all(kept: Vec<u32>, bits: CellBits<'_>) -> Vec<u32>
+    requires { length kept.items + length (bits_in bits) ≤ vec_capacity kept }
+    ensures items { result.items ≡ kept.items ++ bits_in bits.entry }
+    ensures room { vec_capacity result ≡ vec_capacity kept }
+{
+    match bits {
+        CellBits::Bytes(bytes) => with_bytes(kept, bytes),
+        CellBits::Words(words) => with_bits(kept, words),
+    }
+}
+
+/// Keeps the bits of values apart from any sheet, in an empty list that has room for them, at 4 bytes each. It takes no memory.
+pub fn keep_bits(bits: CellBits<'_>, kept: &mut Vec<u32>)
     requires none { kept.old.items ≡ [] }
-    requires room { length bits.now ≤ vec_capacity kept.old }
-    ensures { kept.new.items ≡ bits.now }
+    requires room { length (bits_in bits) ≤ vec_capacity kept.old }
+    ensures { kept.new.items ≡ bits_in bits.entry }
 {
     let alloc = *kept.allocator();
     let list = replace(kept, Vec::new(alloc));
-    *kept = with_bits(list, bits);
+    *kept = with_all(list, bits);
 }

@@ -2,11 +2,13 @@
 
 ghost use Rattle.std.specs.Prelude.{◌≡◌, ◌+◌, ◌-◌, ◌*◌, ◌^◌, ◌<◌, ◌≤◌, ℕ, length, slice_index};
 ghost use Rattle.std.specs.Bool.{OnTrue};
+ghost use Rattle.board.specs.CellBits.{bits_in};
 ghost use Rattle.board.specs.Kept.{in_planes, AreSamples};
 ghost use Rattle.board.specs.Seen.{place_of_cell, HasSample, HasSamples, LiesIn, StaysShown};
 ghost use Rattle.board.specs.Sheets.{bits_at, AreOfRow};
 
 use crate::bytes::write_each;
+use crate::cell_bits::CellBits;
 use crate::kept::pixel_of;
 use crate::law::Run;
 use crate::source::Planes;
@@ -17,7 +19,7 @@ fn show_colour<J: Run>(
     planes: Planes,
     before: usize,
     first: usize,
-    values: &[u32],
+    values: CellBits<'_>,
     given: usize,
     count: usize,
     part: &mut [u8],
@@ -25,9 +27,9 @@ fn show_colour<J: Run>(
     pixel: usize,
     colour: usize,
 )
-    requires values { given + count ≤ length values.now }
+    requires values { given + count ≤ length (bits_in values) }
     requires few { given + count < 2 ^ 32 }
-    requires row { AreOfRow J.values values.now given first count }
+    requires row { AreOfRow J.values (bits_in values) given first count }
     requires samples { AreSamples J.values before (before + in_planes planes) }
     requires short { from + length part.old < 2 ^ 32 }
     requires some { 0 < count }
@@ -47,15 +49,15 @@ fn show_row<J: Run>(
     planes: Planes,
     before: usize,
     first: usize,
-    values: &[u32],
+    values: CellBits<'_>,
     given: usize,
     count: usize,
     part: &mut [u8],
     from: usize,
 ) -> bool
-    requires values { given + count ≤ length values.now }
+    requires values { given + count ≤ length (bits_in values) }
     requires few { given + count < 2 ^ 32 }
-    requires row { AreOfRow J.values values.now given first count }
+    requires row { AreOfRow J.values (bits_in values) given first count }
     requires samples { AreSamples J.values before (before + in_planes planes) }
     requires short { (in_planes planes < 2 ^ 32) × (from + length part.old < 2 ^ 32) }
     requires inside { 0 < count → first + count ≤ before + in_planes planes }
@@ -88,11 +90,11 @@ pub(crate) fn show_in<J: Run>(
     planes: Planes,
     before: usize,
     cells: &CellRuns,
-    values: &[u32],
+    values: CellBits<'_>,
     part: &mut [u8],
     from: usize,
 ) -> bool
-    requires values { values.now ≡ bits_at J.values cells.now }
+    requires values { bits_in values ≡ bits_at J.values cells.now }
     requires samples { AreSamples J.values before (before + in_planes planes) }
     requires short { (in_planes planes < 2 ^ 32) × (from + length part.old < 2 ^ 32) }
     requires inside { (k : ℕ) → k < length cells.now → slice_index cells.now k < before + in_planes planes }

@@ -9,6 +9,7 @@ ghost use Rattle.std.specs.Prelude.{◌≡◌, ◌+◌, ◌^◌, ◌<◌, ◌≤
 ghost use Rattle.std.specs.Global.{Global};
 ghost use Rattle.std.specs.Bool.{OnTrue};
 ghost use denote.Param.Send.{IsSend, IsSync};
+ghost use Rattle.board.specs.CellBits.{bits_in};
 ghost use Rattle.board.specs.Layout.{own_of, pieces_of, value_at};
 ghost use Rattle.board.specs.Seen.{beside, seen_bits, NoneShown, StaysShown};
 ghost use Rattle.board.specs.Sheets.{bits_at, IsPut};
@@ -22,7 +23,7 @@ use crate::alone::compute;
 use crate::gate::Gate;
 use crate::values::{Desk, Pieces, PrivateRuns};
 use crate::workers::desk_for;
-use board::{ApartSheet, Run, Sheet, SheetCells, keep_bits};
+use board::{ApartSheet, CellBits, Run, Sheet, SheetCells, keep_bits};
 use checked_plan::output::PlanCells;
 use std::alloc::{AllocError, Global};
 use std::sync::Wait;
@@ -117,13 +118,13 @@ pub(crate) fn desks_for<'a, J: Run, P: PrivateRuns<J>>(
 fn leave<J: Run>(
     seen: &SheetCells<'_, '_, J>,
     piece: u32,
-    bits: &[u32],
+    bits: CellBits<'_>,
     list: &mut Vec<u32>,
     part: &mut [u8],
     from: usize,
 )
     requires piece { piece < pieces_of J.layout }
-    requires bits { bits.now ≡ bits_at J.values (own_of J.layout piece) }
+    requires bits { bits_in bits ≡ bits_at J.values (own_of J.layout piece) }
     requires list { IsFresh J.layout piece list.old }
     requires short { from + length part.old < 2 ^ 32 }
     ensures done { IsDone J.layout J.values seen.now from part.new piece list.new }
@@ -156,8 +157,8 @@ pub(crate) trait HasDesk {
         ensures desk { IsDesk J.layout (P.plan runs.now) (P.suffices runs.now) (desk self.new) };
 
     /// The bits of the numbers that the last run of a piece gave.
-    fn bits(&self) -> &[u32]
-        ensures { result.now ≡ map bits_of (desk self.now).scratch.state.given.items };
+    fn bits(&self) -> CellBits<'_>
+        ensures { bits_in result ≡ map bits_of (desk self.now).scratch.state.given.items };
 }
 
 impl HasDesk for Desk<'_> {
@@ -173,7 +174,7 @@ impl HasDesk for Desk<'_> {
         compute(alloc, seen, runs, self, piece);
     }
 
-    fn bits(&self) -> &[u32] {
+    fn bits(&self) -> CellBits<'_> {
         self.given()
     }
 }
@@ -500,7 +501,7 @@ fn put_left<J: Run>(sheet: &mut Sheet<'_, J>, piece: usize, list: &[u32])
     }
     // No number is taken of this call. It says that there are few pieces.
     sheet.pieces();
-    sheet.put(piece as u32, list);
+    sheet.put(piece as u32, CellBits::Words(list));
 }
 
 /// Puts the pieces of a stage, which the workers have computed, on the sheet.

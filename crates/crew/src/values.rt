@@ -2,15 +2,17 @@
 
 ghost use Rattle.std.specs.Prelude.{◌≡◌, ◌<◌, ◌≤◌, ℕ, List, IfOk, length, map, slice_index};
 ghost use Rattle.checked_plan.specs.declared.checked.Checked.{Checked as CheckedPlan};
+ghost use Rattle.board.specs.CellBits.{bits_in};
 ghost use Rattle.board.specs.Layout.{own_of, pieces_of, value_at};
 ghost use Rattle.board.specs.Words.{bits_of};
 ghost use Rattle.crew.specs.Private.{fetched_of, needs_of, told, HasLooked, IsOwnOf};
+ghost use Rattle.interpreter.specs.GivenNumbers.{given_list};
 ghost use Rattle.interpreter.specs.declared.scratch.Scratch.{Scratch as RunMemory};
 
 use algo::Inputs;
-use board::Run;
+use board::{CellBits, Run};
 use checked_plan::Checked;
-use interpreter::{CellRow, Cells, NumberKind, Scratch};
+use interpreter::{CellRow, Cells, GivenBits, NumberKind, Scratch};
 use numeric::wrap;
 use piece::places::place_of;
 use piece::{LookedCells, run_in};
@@ -24,12 +26,22 @@ pub struct Desk<'a> {
     pub(crate) looked: LookedCells<'a>,
 }
 
+// The low bits of numbers that a run gives, as those of cells.
+fn cell_bits(given: GivenBits<'_>) -> CellBits<'_>
+    ensures { bits_in result ≡ given_list given.entry }
+{
+    match given {
+        GivenBits::Bytes(bytes) => CellBits::Bytes(bytes),
+        GivenBits::Words(words) => CellBits::Words(words),
+    }
+}
+
 impl Desk<'_> {
     /// The bits of the numbers that the last run of a piece gave.
-    pub(crate) fn given(&self) -> &[u32]
-        ensures { result.now ≡ map bits_of self.now.scratch.state.given.items }
+    pub(crate) fn given(&self) -> CellBits<'_>
+        ensures { bits_in result ≡ map bits_of self.now.scratch.state.given.items }
     {
-        self.scratch.given_bits()
+        cell_bits(self.scratch.given())
     }
 }
 

@@ -1,6 +1,7 @@
 //! A worker at the board.
 
 ghost use Rattle.std.specs.Prelude.{◌≡◌, ◌<◌, ◌≤◌, ℕ, ⊤, true, length, map, Contains, IfErr, IfOk, IsOk, IsTrue, MatchBool, slice_index, vec_capacity};
+ghost use Rattle.board.specs.CellBits.{bits_in};
 ghost use Rattle.board.specs.Layout.{own_of, pieces_of, value_at};
 ghost use Rattle.board.specs.Sheets.{bits_at};
 ghost use Rattle.board.specs.Seats.{seeing, IsKnownCell, IsTicketOf, Task};
@@ -11,7 +12,7 @@ ghost use Rattle.crew.specs.Private.{needs_of, words_at, HasRoom};
 
 use crate::gate::Gate;
 use crate::values::{Desk, Pieces, PrivateRuns};
-use board::{Board, BoardSeat, Run, Ticket};
+use board::{Board, BoardSeat, CellBits, Run, Ticket};
 use crossbeam_utils::Backoff;
 use piece::LookedCells;
 use std::alloc::Global;
@@ -61,15 +62,20 @@ fn look_at<J: Run>(
 }
 
 /// Puts the values of all own cells of the ticket's piece, whose bits these are, and finishes it.
-fn complete<J: Run>(board: &Board<'_, J>, seat: &mut BoardSeat, mut ticket: Ticket, bits: &[u32])
+fn complete<J: Run>(
+    board: &Board<'_, J>,
+    seat: &mut BoardSeat,
+    mut ticket: Ticket,
+    bits: CellBits<'_>,
+)
     requires board { seat.old.board ≡ board.now }
     requires ticket { IsTicketOf J.layout seat.old.view ticket }
     requires fresh { ticket.puts ≡ 0 }
-    requires bits { bits.now ≡ bits_at J.values (own_of J.layout ticket.piece) }
+    requires bits { bits_in bits ≡ bits_at J.values (own_of J.layout ticket.piece) }
     ensures { seat.new ≡ seeing seat.old (completed seat.old.view ticket.piece (length (own_of J.layout ticket.piece))) }
 {
-    for word in bits {
-        board.put(seat, &mut ticket, *word);
+    for place in 0..bits.len() {
+        board.put(seat, &mut ticket, bits.at(place));
     }
     board.finish(seat, ticket);
 }

@@ -11,21 +11,42 @@ use Rattle.tree.specs.declared.value.Value.{Value}
 use Rattle.tree.specs.Meaning.{typed}
 use Rattle.interpreter.specs.Evaluation.Words.{bits_at, word_at}
 
-pub low_end : (first begun low least high : ℤ) (k : ℕ) → begun ≡ first → least ≡ low → (begun +ℤ pos k) ≤ℤ least → int_max (int_min (first +ℤ pos k) high) low ≡ low
-low_end first begun low least high k is same below = omega (arith, ints, clamps, is, same, below)
+-- before a ramp reaches its low end, it is at the number that it has when it does
+pub low_end : (first begun low least high start : ℤ) (n k : ℕ) → begun ≡ first → least ≡ low → k < n → (begun +ℤ pos (n - 1 + 1)) ≤ℤ least → least ≤ℤ (begun +ℤ pos n) →
+    start ≡ begun +ℤ pos n → int_max (int_min (first +ℤ pos k) high) low ≡ start
+low_end first begun low least high start n k is same less below above behind = omega (arith, ints, clamps, is, same, less, below, above, behind)
 
-pub high_end : (first begun low high greatest : ℤ) (k : ℕ) → begun ≡ first → greatest ≡ high → low ≤ℤ high → greatest ≤ℤ (begun +ℤ pos k) → int_max (int_min (first +ℤ pos k) high) low ≡ high
-high_end first begun low high greatest k is same order above = omega (arith, ints, clamps, is, same, order, above)
+-- behind the turn at which a ramp reaches its high end, it is at the number that it has there
+pub high_end : (first begun low high greatest start : ℤ) (n last m k : ℕ) → begun ≡ first → greatest ≡ high → low ≤ℤ high → 0 < m → (begun +ℤ pos (m - 1 + 1)) ≤ℤ greatest →
+    greatest ≤ℤ (begun +ℤ pos m) → greatest ≤ℤ (begun +ℤ pos k) → n + last ≡ m → start ≡ begun +ℤ pos n → int_max (int_min (first +ℤ pos k) high) low ≡ start +ℤ pos last
+high_end first begun low high greatest start n last m k is same order some below above beyond there behind = omega (arith, ints, clamps, is, same, order, some, below, above, beyond, there, behind)
 
 -- between its ends, it is so many behind the number that lies so many behind the first
-pub between_ends : (first begun low least high greatest start : ℤ) (n k : ℕ) → begun ≡ first → least ≡ low → greatest ≡ high → least ≤ℤ (begun +ℤ pos (n + k)) → (begun +ℤ pos (n + k)) ≤ℤ greatest →
-    start ≡ begun +ℤ pos n → int_max (int_min (first +ℤ pos (n + k)) high) low ≡ start +ℤ pos k
-between_ends first begun low least high greatest start n k is same equal from to behind = omega (arith, ints, clamps, is, same, equal, from, to, behind)
+pub between_ends : (first begun low least high greatest start : ℤ) (n k m : ℕ) → begun ≡ first → least ≡ low → greatest ≡ high → least ≤ℤ (begun +ℤ pos (n + k)) → 0 < m →
+    (begun +ℤ pos (m - 1 + 1)) ≤ℤ greatest → n + k ≤ m → start ≡ begun +ℤ pos n → int_max (int_min (first +ℤ pos (n + k)) high) low ≡ start +ℤ pos k
+between_ends first begun low least high greatest start n k m is same equal from some below to behind = omega (arith, ints, clamps, is, same, equal, from, some, below, to, behind)
 
-front_word : (xs ys : List ℕ) (k : ℕ) → k < length xs → bits_at (xs ++ ys) k ≡ bits_at xs k
+-- so many turns, and one more if there are more
+pub record IsOneMore (m count after : ℕ) : Type 0 where
+  pub more : m < count → after ≡ m + 1
+  pub all : count ≤ m → after ≡ count
+
+pub one_more_within : (m count after : ℕ) → IsOneMore m count after → m ≤ count → (m ≤ after) × (after ≤ count) × (after ≤ m + 1)
+one_more_within m count after h most = elim (cases_lt m count) [
+  | inl less ↦ (let is = h.more less in (omega (arith, is), omega (arith, is, less), omega (arith, is)))
+  | inr more ↦ (let is = h.all more in (omega (arith, is, most), omega (arith, is), omega (arith, is, more)))
+]
+
+pub one_more_reached : (m count after k : ℕ) → IsOneMore m count after → after ≤ k → k < count → (m < count) × (after ≡ m + 1)
+one_more_reached m count after k h from to = elim (cases_lt m count) [
+  | inl less ↦ (less, h.more less)
+  | inr more ↦ (let is = h.all more in absurd (omega (arith, is, from, to)))
+]
+
+pub front_word : (xs ys : List ℕ) (k : ℕ) → k < length xs → bits_at (xs ++ ys) k ≡ bits_at xs k
 front_word xs ys k lt = get_or_append_left xs ys 0 k lt
 
-later_word : (xs ys : List ℕ) (k : ℕ) → bits_at (xs ++ ys) (length xs + k) ≡ bits_at ys k
+pub later_word : (xs ys : List ℕ) (k : ℕ) → bits_at (xs ++ ys) (length xs + k) ≡ bits_at ys k
 later_word xs ys k = get_or-append-add xs ys k 0
 
 -- what is found at a low end, along a row and at a high end is found at all turns

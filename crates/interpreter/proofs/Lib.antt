@@ -59,4 +59,7 @@ pub mod FewRooms
 pub mod Congruent
 pub mod SetRows
 mod UsualCalls
-pub mod LentCalls
+pub mod Powers
+pub mod Distances
+pub mod LentParts
+pub mod NamedPlaces

@@ -1,19 +1,20 @@
 -- Linear forms over the turns of a loop: with each turn a form rises by the factor of the loop's symbol.
-use Rattle.std.proofs.Common.{◌≡◌, ℕ, List, [], ◌∷◌, length, map, refl, sym, ap, ◌∙◌, arith, Bool, true, false, ℤ, pos}
+use Rattle.std.proofs.Common.{◌≡◌, ℕ, ◌+◌, ◌%◌, List, [], ◌∷◌, length, map, refl, sym, ap, subst, ◌∙◌, arith, Bool, true, false, ℤ, pos, w64, SFits, to_z, of_z}
 use Rattle.std.specs.Prelude.{◌==◌, if◌then◌else◌, ◌+ℤ◌, ◌-ℤ◌, ◌*ℤ◌}
 use Rattle.std.proofs.Math.IntN.{zero-*ℤ, *ℤ-one}
-use Rattle.std.proofs.lemmas.Int.{ints}
+use Rattle.std.proofs.lemmas.Int.{ints, int_wrap_fits}
 use Rattle.numeric.proofs.Ints.{distribute, distribute_right}
 use Rattle.lin.specs.Forms.{Form, sum_of, factor_of}
 use Rattle.lin.specs.declared.form.Multiple.{Multiple}
-use Rattle.meaning.specs.Names.{bound, same_name}
 use Rattle.plan.specs.declared.stmt.Coordinate.{Coordinate}
 use Rattle.plan.specs.Plan.{Index, At, Found}
 use Rattle.plan.specs.View.{coordinate_of}
 use Rattle.plan.specs.Symbols.{Symbols, bind, form_value}
 use Rattle.plan.specs.Semantics.Actions.{fixed, index_target}
+use Rattle.interpreter.specs.Narrow.{IsNumber}
 use Rattle.interpreter.specs.Runs.{numbers_at}
 use Rattle.interpreter.specs.Targets.{known_number}
+use Rattle.interpreter.proofs.Summing.{number_fits, wrapped_sum}
 
 one_moved : (b : Bool) (f z k v : ℤ) → f *ℤ (if b then z +ℤ k else v) ≡ f *ℤ (if b then z else v) +ℤ (if b then f else pos 0) *ℤ k
 one_moved true f z k v = distribute f z k
@@ -28,6 +29,16 @@ sum_moved (t ∷ ts) s i z k b c =
 
 pub form_moved : (l : Form) (s : Symbols) (i : ℕ) (z k : ℤ) (b c : Bool) → form_value l (bind s i (z +ℤ k) b) ≡ form_value l (bind s i z c) +ℤ factor_of l.terms i *ℤ k
 form_moved l s i z k b c = omega (arith, ints, sum_moved l.terms s i z k b c)
+
+-- one turn on it is what a sum modulo 2^64 gives, if it is of 64 bits
+pub later_value : (l : Form) (s : Symbols) (i : ℕ) (z a f : ℤ) (b c : Bool) → SFits w64 a → SFits w64 f → a ≡ form_value l (bind s i z b) → f ≡ factor_of l.terms i →
+    IsNumber (form_value l (bind s i (z +ℤ pos 1) c)) →
+    to_z w64 ((of_z w64 a + of_z w64 f) % 18446744073709551616) ≡ form_value l (bind s i (z +ℤ pos 1) c)
+later_value l s i z a f b c a_fits f_fits is factor narrow =
+    let moved = form_moved l s i z (pos 1) c b in
+    let later : a +ℤ f ≡ form_value l (bind s i (z +ℤ pos 1) c) = omega (arith, ints, is, factor, moved, *ℤ-one (factor_of l.terms i)) in
+    let fits : SFits w64 (a +ℤ f) = subst (λ (y : ℤ). SFits w64 y) (sym later) (number_fits _ narrow) in
+    wrapped_sum a f f a_fits f_fits (sym (int_wrap_fits w64 f f_fits)) fits ∙ later
 
 -- the number k turns on, by those of the first turn and of the second
 abbrev pub moved : ℤ → ℤ → ℕ → ℤ
@@ -50,19 +61,3 @@ pub numbers_moved : (cs : List Coordinate) (s : Symbols) (i : ℕ) (z : ℤ) (k 
     map (known_number (bind s i (z +ℤ pos k) d)) cs ≡ numbers_at (map (known_number (bind s i z b)) cs) (map (known_number (bind s i (z +ℤ pos 1) c)) cs) k
 numbers_moved [] s i z k b c d = refl
 numbers_moved (x ∷ cs) s i z k b c d = λ j. index_moved (coordinate_of x).index s i z k b c d j ∷ numbers_moved cs s i z k b c d j
-
--- and the number that a name stands for
-pub bound_moved : (names : List (List ℕ)) (xs ys : List ℤ) (name : List ℕ) (k : ℕ) → length xs ≡ length ys → bound names (numbers_at xs ys k) name ≡ moved (bound names xs name) (bound names ys name) k
-bound_moved [] xs ys name k h = by xs ys
-  where
-    by : (xs ys : List ℤ) → bound [] (numbers_at xs ys k) name ≡ moved (bound [] xs name) (bound [] ys name) k
-    by xs ys = omega (arith, ints, zero-*ℤ (pos k))
-bound_moved (n ∷ ns) [] [] name k h = omega (arith, ints, zero-*ℤ (pos k))
-bound_moved (n ∷ ns) [] (y ∷ ys) name k h = absurd (omega arith)
-bound_moved (n ∷ ns) (x ∷ xs) [] name k h = absurd (omega arith)
-bound_moved (n ∷ ns) (x ∷ xs) (y ∷ ys) name k h = by (same_name n name) (bound_moved ns xs ys name k (omega arith))
-  where
-    by : (t : Bool) → bound ns (numbers_at xs ys k) name ≡ moved (bound ns xs name) (bound ns ys name) k →
-        elim t [ true ↦ moved x y k | false ↦ bound ns (numbers_at xs ys k) name ] ≡ moved (elim t [ true ↦ x | false ↦ bound ns xs name ]) (elim t [ true ↦ y | false ↦ bound ns ys name ]) k
-    by true e = refl
-    by false e = e

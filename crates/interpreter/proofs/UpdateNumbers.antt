@@ -1,5 +1,5 @@
 -- The numbers of an update's coordinates: those that forms tell, and those that registers have.
-use Rattle.std.proofs.Common.{◌≡◌, ℕ, zero, suc, ◌-◌, List, [], ◌∷◌, Option, Some, None, refl, sym, subst, ℤ}
+use Rattle.std.proofs.Common.{◌≡◌, ℕ, zero, suc, ◌-◌, List, [], ◌∷◌, Option, Some, None, length, take, refl, sym, ap, ◌∙◌, arith, subst, ℤ}
 use Rattle.tree.specs.declared.value.Value.{Value}
 use Rattle.tree.specs.Term.{Term}
 use Rattle.plan.specs.declared.stmt.Coordinate.{Coordinate}
@@ -42,3 +42,23 @@ numbers_found V L (c ∷ cs) p [] ys h = absurd (cc)
 numbers_found V L (c ∷ cs) p (z ∷ zs) ys h =
     let f = by_index V L cs z zs ys p (coordinate_of c).index (λ l there. numbers_found V L cs (p - 1) zs l there) h in
     subst (λ (t : List ℤ). t ≡ update_numbers p (c ∷ cs) (z ∷ zs) t) f.is (λ i. f.first i ∷ f.later i)
+
+-- those that expressions find are among the first so many
+pub update_front : (p : ℕ) (cs : List Coordinate) (zs ys us : List ℤ) → take p ys ≡ take p us → length ys ≡ length us → update_numbers p cs zs ys ≡ update_numbers p cs zs us
+update_front p [] zs ys us e l = refl
+update_front p (c ∷ cs) [] ys us e l = refl
+update_front p (c ∷ cs) (z ∷ zs) [] [] e l = refl
+update_front p (c ∷ cs) (z ∷ zs) [] (u ∷ us) e l = absurd (omega (arith, l))
+update_front p (c ∷ cs) (z ∷ zs) (y ∷ ys) [] e l = absurd (omega (arith, l))
+update_front zero (c ∷ cs) (z ∷ zs) (y ∷ ys) (u ∷ us) e l =
+    λ i. first (coordinate_of c).index i ∷ update_front zero cs zs ys us refl (omega (arith, l)) i
+  where
+    first : (x : Index) → update_number zero x z y ≡ update_number zero x z u
+    first (At f) = refl
+    first (Found t) = refl
+update_front (suc p) (c ∷ cs) (z ∷ zs) (y ∷ ys) (u ∷ us) e l =
+    let less : suc p - 1 ≡ p = omega arith in
+    let same : y ≡ u = cc in
+    let others : take p ys ≡ take p us = cc in
+    let later = update_front (suc p - 1) cs zs ys us (ap (λ (q : ℕ). take q ys) less ∙ others ∙ sym (ap (λ (q : ℕ). take q us) less)) (omega (arith, l)) in
+    λ i. update_number (suc p) (coordinate_of c).index z (same i) ∷ later i

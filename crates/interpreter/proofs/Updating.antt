@@ -20,7 +20,7 @@ use Rattle.plan.specs.Semantics.Memory.{Memory, read}
 use Rattle.plan.specs.Semantics.Run.{Around, look, found_target}
 use Rattle.interpreter.specs.Evaluation.Lanes.{number_at}
 use Rattle.interpreter.specs.Pieces.{around, no_cells, setting}
-use Rattle.interpreter.specs.Runs.{store_at, IsBut}
+use Rattle.interpreter.specs.Runs.{numbers_at, store_at, IsBut}
 use Rattle.interpreter.specs.Steps.{Progress, steps}
 use Rattle.interpreter.specs.Targets.{known_number, target_of}
 use Rattle.interpreter.specs.Updates.{columns_at, operand_at, operation_at, place_number, place_numbers, registers_of, sets_or_none, FindsTurn, FindsUpdate, IsOwnCall}
@@ -51,6 +51,11 @@ pub columns_take : (n s w k : ℕ) (zs : List Number) → s ≤ w → take s (co
 columns_take n zero w k zs h = refl
 columns_take n (suc s) zero k zs h = absurd (omega arith)
 columns_take n (suc s) (suc w) k zs h = ap (λ (ys : List ℤ). number_at zs k ∷ ys) (columns_take n s w k (drop n zs) (omega arith))
+
+-- and there are as many
+pub columns_length : (n w k : ℕ) (zs : List Number) → length (columns_at n w zs k) ≡ w
+columns_length n zero k zs = refl
+columns_length n (suc w) k zs = ap (λ (l : ℕ). suc l) (columns_length n w k (drop n zs))
 
 -- an operand's registers are the first ones
 pub operand_same : (n k : ℕ) (o : Operand) (old new : List Number) (m : Memory Value) (b : ℕ) → k < n → ((j : ℕ) → j < registers_of o * n → number_at new j ≡ number_at old j) →
@@ -148,13 +153,12 @@ first_update x cell b d n i size cs e s j begin low memory u zs p whole is finds
     let f = store_at x b cs e s j begin d in
     let z = low +ℤ pos i in
     let now = bind s j z (int_le z begin) in
-    let ys = columns_at n (length cs) zs i in
     let t : FindsTurn _ _ b size n cs e _ u zs p.memory i = finds.turns p.memory but i lt in
     let go : Progress → Option Progress = steps A (flat_map f (rising (low +ℤ pos (i + 1)) (n - (i + 1)))) in
     first_turn A f low n i p whole lt h
-    ∙ ap (λ (o : Option Progress). with o go) (numbered_stores x cell b d size cs e now p ys is t.place)
-    ∙ ap (λ (o : Option Value). with (with o (sets b p (take size ys))) go) t.value
-    ∙ ap (λ (q : List ℤ). with (with (operation_at n u.operation (drop u.start zs) p.memory b i) (sets b p q)) go) (columns_take n size (length cs) i zs finds.point.within)
+    ∙ ap (λ (o : Option Progress). with o go) (numbered_stores x cell b d size cs e now p t.numbers is t.place)
+    ∙ ap (λ (o : Option Value). with (with o (sets b p (take size t.numbers))) go) t.value
+    ∙ ap (λ (q : List ℤ). with (with (operation_at n u.operation (drop u.start zs) p.memory b i) (sets b p q)) go) t.point
 
 -- ---- registers that are filled one after another
 
@@ -162,14 +166,32 @@ first_update x cell b d n i size cs e s j begin low memory u zs p whole is finds
 pub column_front : (n w k : ℕ) (zs : List Number) (z : ℤ) (l : List ℤ) → z ≡ number_at zs k → l ≡ columns_at n w (drop n zs) k → z ∷ l ≡ columns_at n (suc w) zs k
 column_front n w k zs z l e f = λ i. e i ∷ f i
 
-pub coordinates_front : (V : List ℕ → ℤ) (L : List ℕ → List ℤ → Option Value) (p q n k : ℕ) (c : Coordinate) (cs : List Coordinate) (z : ℤ) (zs : List ℤ) (mid new : List Number) → q ≡ p - 1 →
-    place_number V L p (coordinate_of c).index z ≡ Some (number_at mid k) → place_numbers V L q cs zs ≡ Some (columns_at n (length cs) (drop n new) k) → number_at new k ≡ number_at mid k →
-    place_numbers V L p (c ∷ cs) (z ∷ zs) ≡ Some (columns_at n (length (c ∷ cs)) new k)
-coordinates_front V L p q n k c cs z zs mid new less here later same =
-    ap (λ (o : Option ℤ). with o (λ y. with (place_numbers V L (p - 1) cs zs) (λ l. Some (y ∷ l)))) here
-    ∙ ap (λ (r : ℕ). with (place_numbers V L r cs zs) (λ l. Some (number_at mid k ∷ l))) (sym less)
+pub coordinates_front : (V : List ℕ → ℤ) (L : List ℕ → List ℤ → Option Value) (q n k : ℕ) (c : Coordinate) (cs : List Coordinate) (z : ℤ) (zs : List ℤ) (mid new : List Number) →
+    place_number V L (suc q) (coordinate_of c).index z ≡ Some (number_at mid k) → place_numbers V L q cs zs ≡ Some (columns_at n q (drop n new) k ++ drop q zs) → number_at new k ≡ number_at mid k →
+    place_numbers V L (suc q) (c ∷ cs) (z ∷ zs) ≡ Some (columns_at n (suc q) new k ++ drop (suc q) (z ∷ zs))
+coordinates_front V L q n k c cs z zs mid new here later same =
+    let less : suc q - 1 ≡ q = omega arith in
+    ap (λ (o : Option ℤ). with o (λ y. with (place_numbers V L (suc q - 1) cs zs) (λ l. Some (y ∷ l)))) here
+    ∙ ap (λ (r : ℕ). with (place_numbers V L r cs zs) (λ l. Some (number_at mid k ∷ l))) less
     ∙ ap (λ (o : Option (List ℤ)). with o (λ l. Some (number_at mid k ∷ l))) later
-    ∙ ap (λ (y : ℤ). Some (y ∷ columns_at n (length cs) (drop n new) k)) (sym same)
+    ∙ ap (λ (y : ℤ). Some (y ∷ (columns_at n q (drop n new) k ++ drop q zs))) (sym same)
+
+-- as many numbers at each turn as at the first
+pub numbers_length : (xs ys : List ℤ) (k : ℕ) → length (numbers_at xs ys k) ≡ length xs
+numbers_length [] ys k = refl
+numbers_length (x ∷ xs) [] k = ap (λ (l : ℕ). suc l) (numbers_length xs [] k)
+numbers_length (x ∷ xs) (y ∷ ys) k = ap (λ (l : ℕ). suc l) (numbers_length xs ys k)
+
+-- where no coordinate is one of the point, forms tell all of them
+pub known_first : (V : List ℕ → ℤ) (L : List ℕ → List ℤ → Option Value) (cs : List Coordinate) (zs : List ℤ) → length zs ≡ length cs → place_numbers V L 0 cs zs ≡ Some zs
+known_first V L [] [] h = refl
+known_first V L [] (z ∷ zs) h = absurd (omega (arith, h))
+known_first V L (c ∷ cs) [] h = absurd (omega (arith, h))
+known_first V L (c ∷ cs) (z ∷ zs) h = by (coordinate_of c).index (known_first V L cs zs (omega (arith, h)))
+  where
+    by : (x : Index) → place_numbers V L 0 cs zs ≡ Some zs → with (place_number V L 0 x z) (λ y. with (place_numbers V L (0 - 1) cs zs) (λ l. Some (y ∷ l))) ≡ Some (z ∷ zs)
+    by (At l) e = ap (λ (o : Option (List ℤ)). with o (λ l. Some (z ∷ l))) e
+    by (Found t) e = ap (λ (o : Option (List ℤ)). with o (λ l. Some (z ∷ l))) e
 
 -- ---- memories that differ in one buffer at most
 

@@ -31,6 +31,12 @@ rest_of_word I32 z w e = rest_all z w e
 pub wrap_of_word : (t : Ty) (z : ℤ) (w : ℕ) → pos w ≡ int_rem_euclid z (pos (2 ^ 32)) → wrap t (pos w) ≡ wrap t z
 wrap_of_word t z w e = ap (lowered t) (rest_of_word t z w e)
 
+-- a word and its lowest 8 bits wrap to the same byte
+pub wrap_of_byte : (w : ℕ) → wrap U8 (pos (w % 2 ^ 8)) ≡ wrap U8 (pos w)
+wrap_of_byte w =
+    let same : w % 2 ^ 8 % 2 ^ 8 ≡ w % 2 ^ 8 = omega arith in
+    ap (λ (b : ℕ). lowered U8 (pos b)) same
+
 -- a number whose bits make one of at most the greatest value of a type without a sign is a value of it
 pub natural_fits : (t : Ty) (z : ℤ) → SFits w64 z → least t ≡ pos 0 → pos (of_z w64 z) ≤ℤ greatest t → IsOf t z
 natural_fits t (pos a) f none le = record { from = omega (arith, ints, none); to = le }

@@ -10,6 +10,7 @@ pub mod Pieces
 pub mod Raster
 pub mod Rows
 pub mod LowBits
+pub mod GivenNumbers
 pub mod Scratches
 pub mod Sizes
 pub mod States

@@ -1,5 +1,5 @@
 -- Updates at the turns of a run: what registers hold for all turns, and what is left to each turn.
-use Rattle.std.specs.Prelude.{◌≡◌, ◌<◌, ◌≤◌, ◌-◌, ℕ, zero, suc, List, [], ◌∷◌, drop, length, map, Option, Some, None, ℤ, pos, ◌+ℤ◌, ◌-ℤ◌, ◌*ℤ◌, string_bytes}
+use Rattle.std.specs.Prelude.{◌≡◌, ◌<◌, ◌≤◌, ◌-◌, ℕ, zero, suc, List, [], ◌∷◌, drop, take, length, map, Option, Some, None, ℤ, pos, ◌+ℤ◌, ◌-ℤ◌, ◌*ℤ◌, string_bytes}
 use Rattle.tree.specs.declared.value.Value.{Value}
 use Rattle.tree.specs.Meaning.{typed, applied}
 use Rattle.tree.specs.Term.{Term, indices, list_terms}
@@ -106,10 +106,12 @@ sets_or_none b x p v = with (write x.memory b p v) (λ m. Some (record { memory 
 
 -- ---- a store that is an update
 
--- at a turn, where memory holds this, the coordinates have the numbers of the first registers, and the expression has the operation's value
+-- at a turn, where memory holds this, the coordinates have these numbers, of which those of the point are in the first registers, and the expression has the operation's value
 pub record FindsTurn (variables : List ℕ → ℤ) (known : List ℤ) (b size n : ℕ) (cs : List Coordinate) (e : Term) (look : List ℕ → List ℤ → Option Value) (u : Update) (zs : List Number) (m : Memory Value) (k : ℕ) : Type 0 where
-  pub place : place_numbers variables look size cs known ≡ Some (columns_at n (length cs) zs k)
-  pub value : found (bound (map (λ c. string_bytes c.variable) cs) (columns_at n (length cs) zs k)) look e ≡ operation_at n u.operation (drop u.start zs) m b k
+  pub numbers : List ℤ
+  pub place : place_numbers variables look size cs known ≡ Some numbers
+  pub point : take size numbers ≡ columns_at n size zs k
+  pub value : found (bound (map (λ c. string_bytes c.variable) cs) numbers) look e ≡ operation_at n u.operation (drop u.start zs) m b k
 
 -- the first coordinates are a point, and there are not more of them than coordinates
 pub record IsPoint (size count : ℕ) : Type 0 where

@@ -36,6 +36,7 @@ mod updates;
 mod visits;
 
 pub use cells::{CellRow, Cells, NumberKind};
+pub use given::GivenBits;
 pub use row::Row;
 pub use run::run_piece_in;
 pub use scratch::Scratch;

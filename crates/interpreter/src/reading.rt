@@ -1,6 +1,6 @@
 //! What a store's expressions are evaluated over.
 
-ghost use Rattle.std.specs.Prelude.{◌≡◌, length, map, string_bytes};
+ghost use Rattle.std.specs.Prelude.{◌≡◌, IfSome, List, ℤ, map, pos, slice_index_or, string_bytes};
 ghost use Rattle.meaning.specs.Image.Raster.{is_within};
 ghost use Rattle.meaning.specs.Names.{bound};
 ghost use Rattle.interpreter.specs.Pieces.{found_in};
@@ -37,27 +37,16 @@ pub(crate) fn number_bound(coordinates: &[Coordinate], numbers: &[i64], name: &s
     }
 }
 
-/// The numbers of the first coordinate of a variable's name at two turns, 0 and 0 where there is none.
-pub(crate) fn numbers_bound(
-    coordinates: &[Coordinate],
-    first: &[i64],
-    second: &[i64],
-    name: &str,
-) -> (i64, i64)
-    requires { length first.now ≡ length second.now }
-    ensures first { result.0 ≡ bound (map (λ c. string_bytes c.variable) coordinates.now) first.now name.now }
-    ensures second { result.1 ≡ bound (map (λ c. string_bytes c.variable) coordinates.now) second.now name.now }
+/// The place of the first coordinate of a variable's name.
+pub(crate) fn place_named(coordinates: &[Coordinate], name: &str) -> Option<usize>
+    ensures { IfSome result (λ i. (zs : List ℤ) → bound (map (λ c. string_bytes c.variable) coordinates.now) zs name.now ≡ slice_index_or zs i (pos 0)) }
 {
-    match (coordinates, first, second) {
-        ([coordinate, coordinates @ ..], [number, first @ ..], [next, second @ ..]) => {
-            if is_named(coordinate.variable.as_str(), name) {
-                (*number, *next)
-            } else {
-                numbers_bound(coordinates, first, second, name)
-            }
+    for (place, coordinate) in coordinates.iter().enumerate() {
+        if is_named(coordinate.variable.as_str(), name) {
+            return Some(place);
         }
-        _ => (0, 0),
     }
+    None
 }
 
 /// Whether a point lies on the extents.

@@ -9,6 +9,7 @@ ghost use Rattle.interpreter.specs.Bindings.{symbols_of};
 ghost use Rattle.interpreter.specs.Buffers.Blocks.{memory_of};
 ghost use Rattle.interpreter.specs.Buffers.Marks.{narrow_mark, places_held};
 ghost use Rattle.interpreter.specs.Buffers.Spots.{HasPlace, IsSpot};
+ghost use Rattle.interpreter.specs.Evaluation.Lending.{lent};
 ghost use Rattle.interpreter.specs.Narrow.{RegionIsNarrow, SpanIsNarrow};
 ghost use Rattle.interpreter.specs.Pieces.{around};
 ghost use Rattle.interpreter.specs.RowVisits.{given_from, row_actions, row_takes};
@@ -19,9 +20,11 @@ ghost use Rattle.interpreter.specs.declared.piece.Piece.{Piece as PieceFound};
 ghost use Rattle.interpreter.specs.declared.visits.Visit.TheVariants.{Publish};
 ghost use Rattle.std.specs.Prelude.{flat_map};
 
-use crate::buffers::{Buffers, Held, Spot, held_inside, held_window};
+use crate::buffers::{Buffers, Held, Spot, held_window, place_held};
 use crate::cells::Cells;
-use crate::evaluation::{Signed8, Signed16, Signed32, Unsigned8, Unsigned16, Unsigned32, Width};
+use crate::evaluation::{
+    LentNumbers, Signed8, Signed16, Signed32, Unsigned8, Unsigned16, Unsigned32, Width,
+};
 use crate::given::Given;
 use crate::piece::Piece;
 use crate::scanlines::{distance, row_type};
@@ -89,7 +92,7 @@ fn places_of<'m>(
     count: usize,
 ) -> Option<Held<'m>>
     ensures count { IfSome result (λ held. length held.marks.now ≡ count) }
-    ensures words { IfSome result (λ held. length held.words.now ≡ count) }
+    ensures numbers { IfSome result (λ held. length (lent held.numbers) ≡ count) }
     ensures held { IfSome result (λ held. (k : ℕ) (v : ValueFound) → slice_get (places_held held) k ≡ Some (Some v) → read (memory_of memory.now) buffer ((first +ℤ pos k) ∷ others.now) ≡ Some v) }
 {
     let line = memory.scanline(buffer, others)?;
@@ -101,14 +104,13 @@ fn places_of<'m>(
 /// Takes the numbers that the first so many places hold, as long as each holds one: how many it took.
 fn push_each(held: Held<'_>, count: usize, given: &mut Given) -> usize
     requires marks { count ≤ length held.marks.now }
-    requires words { length held.words.now ≡ length held.marks.now }
     requires room { length given.old.items + count ≤ given.old.room }
     ensures count { result ≤ count }
     ensures given { given_from (places_held held.entry) given.old.items result ≡ Some given.new.items }
     ensures room { given.new.room ≡ given.old.room }
 {
     for turn in 0..count {
-        let Some(value) = held_inside(held.marks, held.words, held.wides, turn) else {
+        let Some(value) = place_held(held, turn) else {
             return turn;
         };
         given.push(value);
@@ -116,23 +118,31 @@ fn push_each(held: Held<'_>, count: usize, given: &mut Given) -> usize
     count
 }
 
-/// Takes the numbers that the first so many places hold, where these are set to values of the type and their numbers stand in words.
+/// Takes the numbers that the first so many places hold, where these are set to values of the type that fit it.
 #[inline(always)]
 fn push_words<W: Width>(held: Held<'_>, count: usize, given: &mut Given)
     requires marked { (k : ℕ) → k < count → slice_get held.marks.now k ≡ Some (narrow_mark W.ty) }
-    requires words { count ≤ length held.words.now }
+    requires numbers { count ≤ length (lent held.numbers) }
     requires room { length given.old.items + count ≤ given.old.room }
     ensures given { given_from (places_held held.entry) given.old.items count ≡ Some given.new.items }
     ensures room { given.new.room ≡ given.old.room }
 {
-    let (words, _) = held.words.split_at(count);
-    given.append_words::<W>(words);
+    match held.numbers {
+        LentNumbers::Words(words) => {
+            let (words, _) = words.split_at(count);
+            given.append_words::<W>(words);
+        }
+        LentNumbers::Bytes(bytes) => {
+            let (bytes, _) = bytes.split_at(count);
+            given.append_bytes::<W>(bytes);
+        }
+    }
 }
 
 /// The same, by a loop of the type's own.
 fn push_words_of(ty: Ty, held: Held<'_>, count: usize, given: &mut Given)
     requires marked { (k : ℕ) → k < count → slice_get held.marks.now k ≡ Some (narrow_mark ty) }
-    requires words { count ≤ length held.words.now }
+    requires numbers { count ≤ length (lent held.numbers) }
     requires room { length given.old.items + count ≤ given.old.room }
     ensures given { given_from (places_held held.entry) given.old.items count ≡ Some given.new.items }
     ensures room { given.new.room ≡ given.old.room }
@@ -149,7 +159,7 @@ fn push_words_of(ty: Ty, held: Held<'_>, count: usize, given: &mut Given)
 
 /// Takes the numbers that places hold, from the first on, as long as each holds one and there is room: how many it took.
 fn push_held(held: Held<'_>, given: &mut Given) -> usize
-    requires { length held.words.now ≡ length held.marks.now }
+    requires { length (lent held.numbers) ≡ length held.marks.now }
     ensures count { result ≤ length held.entry.marks.now }
     ensures given { given_from (places_held held.entry) given.old.items result ≡ Some given.new.items }
     ensures room { given.new.room ≡ given.old.room }

@@ -21,7 +21,7 @@ use crate::evaluation::{
 };
 use crate::loads::{claim_of, is_named};
 use crate::piece::Piece;
-use crate::reading::{Reading, numbers_bound};
+use crate::reading::{Reading, place_named};
 use crate::samples::{SampleRow, all_samples, bytes_of, put_samples, samples_among};
 use crate::scanlines::{
     Pixels, copy_words, distance, pixels_beside, put_pixels, row_type, sample_type, samples_beside,
@@ -68,6 +68,17 @@ impl RunReading<'_, '_> {
             memory: self.memory,
             numbers: self.first,
         }
+    }
+
+    /// The numbers of a variable at the first turn and at the second. Each later one is as much more.
+    #[inline(always)]
+    fn ends(&self, name: &str) -> Option<(i64, i64)>
+        ensures { IfSome result (λ p. (k : ℕ) → bound (map (λ c. string_bytes c.variable) self.now.coordinates.now) (numbers_at self.now.first.now self.now.second.now k) name.now ≡ p.0 +ℤ (p.1 -ℤ p.0) *ℤ pos k) }
+    {
+        let place = place_named(self.coordinates, name)?;
+        let first = *self.first.get(place)?;
+        let second = *self.second.get(place)?;
+        Some((first, second))
     }
 
     /// Where a name is read. Nothing where it means nothing, or the buffer that the run stores to.
@@ -283,8 +294,8 @@ impl RunReading<'_, '_> {
         })
     }
 
-    /// The words of so many of a buffer's places whose first coordinate rises by one, lent where all hold values of one type and these
-    /// stand in words that are as well words of the type that they are cast to, if there is one.
+    /// The numbers of so many of a buffer's places whose first coordinate rises by one, lent where all hold values of one type, and their
+    /// low bits are as well those of the type that they are cast to, if there is one.
     fn lend_place_row(
         &self,
         buffer: u64,
@@ -303,7 +314,7 @@ impl RunReading<'_, '_> {
         let ty = type_lent(own, cast)?;
         Some(LentRow {
             ty,
-            numbers: LentNumbers::Words(held.words),
+            numbers: held.numbers,
         })
     }
 
@@ -408,11 +419,18 @@ impl RunReader for RunReading<'_, '_> {
     ghost agrees = { λ r m. IsBut r.buffer (memory_of r.memory.now) m };
 
     fn variable(&self, name: &str, out: &mut [u32]) -> Option<Lanes> {
-        if self.first.len() != self.second.len() {
-            return None;
-        }
-        let (first, second) = numbers_bound(self.coordinates, self.first, self.second, name);
+        let (first, second) = self.ends(name)?;
         lanes_of(first, second, out)
+    }
+
+    fn standing(&self, name: &str, _count: usize) -> Option<i64> {
+        let (first, second) = self.ends(name)?;
+        standing_of(first, second)
+    }
+
+    fn rising(&self, name: &str, _count: usize) -> Option<i64> {
+        let (first, second) = self.ends(name)?;
+        rising_of(first, second)
     }
 
     fn look_each(&self, name: &str, others: &[i64], out: &mut [Number]) -> Option<Ty> {
@@ -505,6 +523,23 @@ fn number_in(lanes: Lanes, register: &[u32], turn: usize) -> Option<i64>
         Lanes::Clamped(_, ramp) => Some(clamped_at(ramp, turn)?.value),
         Lanes::Vector(ty) => Some(typed_number(ty, *register.get(turn)?)),
     }
+}
+
+/// The number of a coordinate at all turns, by those of the first turn and of the second, where it stays.
+#[inline(always)]
+pub(crate) fn standing_of(first: i64, second: i64) -> Option<i64>
+    ensures { IfSome result (λ z. (k : ℕ) → first +ℤ (second -ℤ first) *ℤ pos k ≡ z) }
+{
+    if second == first { Some(first) } else { None }
+}
+
+/// The number of a coordinate at the first turn, by that and the one of the second turn, where it rises by one from turn to turn.
+#[inline(always)]
+pub(crate) fn rising_of(first: i64, second: i64) -> Option<i64>
+    ensures { IfSome result (λ z. (k : ℕ) → first +ℤ (second -ℤ first) *ℤ pos k ≡ z +ℤ pos k) }
+{
+    let step = second.checked_sub(first)?;
+    if step == 1 { Some(first) } else { None }
 }
 
 /// The numbers of a coordinate at so many turns, by those of the first turn and of the second. They are put into the register

@@ -31,7 +31,7 @@ ghost use Rattle.interpreter.specs.Updates.{FindsUpdate};
 ghost use Rattle.interpreter.specs.Visits.{between};
 
 use crate::buffers::{Buffers, Spot};
-use crate::evaluation::{Stop, evaluate_words};
+use crate::evaluation::{Stop, evaluate_run};
 use crate::piece::Piece;
 use crate::placing::{LISTS, Places, Target, place_update};
 use crate::registers::{LONGEST_RUN, LONGEST_UPDATE, SHORTEST_RUN, value_at};
@@ -39,7 +39,7 @@ use crate::row::Row;
 use crate::run_reading::RunReading;
 use crate::sizes::size_in;
 use crate::state::State;
-use crate::store::{known_numbers, of_function, store};
+use crate::store::{known_numbers, later_numbers, of_function, store};
 use crate::symbols::{Binding, Symbols};
 use crate::turns::{Turns, turn};
 use crate::updates::{Update, is_update, store_turns, update_part};
@@ -167,7 +167,7 @@ fn evaluate_in(
         return None;
     }
     let (out, rest) = words.split_at_mut(count);
-    let ty = evaluate_words(expr, reader, out, rest)?;
+    let ty = evaluate_run(expr, reader, out, rest)?;
     Some(ty)
 }
 
@@ -195,17 +195,15 @@ fn evaluate_part<'a>(
     if part.count < 2 {
         return None;
     }
-    let second = part.low + 1;
-    numbers_in(
-        turn(part.turns, part.low),
+    let first = turn(part.turns, part.low);
+    let second = turn(part.turns, part.low + 1);
+    numbers_in(first, line.coordinates, symbols, &mut state.numbers);
+    later_numbers(
+        first,
+        second,
         line.coordinates,
         symbols,
-        &mut state.numbers,
-    );
-    numbers_in(
-        turn(part.turns, second),
-        line.coordinates,
-        symbols,
+        state.numbers.as_slice(),
         &mut state.point,
     );
     let reader = RunReading {

@@ -133,7 +133,7 @@ pub(crate) fn put_colour(row: SampleRow<'_>, start: usize, step: usize, out: &mu
 }
 
 /// Puts bytes in as words.
-fn put_bytes(bytes: &[u8], out: &mut [u32])
+pub(crate) fn put_bytes(bytes: &[u8], out: &mut [u32])
     requires { length bytes.now ≡ length out.old }
     ensures { (k : ℕ) → k < length out.new → (bits_at out.new k ≡ slice_index bytes.now k) × (bits_at out.new k ≤ 255) }
 {

@@ -7,13 +7,14 @@ ghost use Rattle.tree.specs.Meaning.{typed};
 ghost use Rattle.std.specs.Bool.{OnTrue};
 ghost use Rattle.interpreter.specs.Buffers.Marks.{narrow_mark, places_held};
 ghost use Rattle.interpreter.specs.Evaluation.Lanes.{number_at, taken_as};
+ghost use Rattle.interpreter.specs.Evaluation.Lending.{lent};
 ghost use Rattle.interpreter.specs.Evaluation.Words.{bits_at, word_at};
 ghost use Rattle.interpreter.specs.SampleRows.{sampled};
 ghost use Rattle.interpreter.specs.Scanlines.{along, input_at, pixel_along, sample_along};
 
-use crate::buffers::{Held, Mark, held_at, narrow_mark, narrow_type};
-use crate::evaluation::{Number, copy_each};
-use crate::samples::{SampleRow, put_colour, sample_count, sample_of, samples_among};
+use crate::buffers::{Held, Mark, narrow_mark, narrow_type, place_held};
+use crate::evaluation::{LentNumbers, Number, copy_each};
+use crate::samples::{SampleRow, put_bytes, put_colour, sample_count, sample_of, samples_among};
 use numeric::Ty;
 
 /// Places side by side, the first of which is that of the coordinate `origin`.
@@ -301,7 +302,7 @@ pub(crate) fn sample_type(ty: Ty, cast: Option<Ty>, most: u32, words: &[u32]) ->
 fn number_held(held: Held<'_>, ty: Ty, place: usize) -> Option<Number>
     ensures { IfSome result (λ n. slice_get (places_held held.entry) place ≡ Some (Some (typed ty n.value))) }
 {
-    let value = held_at(held.marks, held.words, held.wides, place)?;
+    let value = place_held(held, place)?;
     if value.ty == ty {
         Some(Number {
             value: value.number,
@@ -332,7 +333,7 @@ pub(crate) fn take_numbers(line: Scanline<'_>, ty: Ty, out: &mut [Number]) -> Op
     Some(())
 }
 
-/// The type of what the first of some places holds, where its number stands in its word.
+/// The type of what the first of some places holds, where its number fits it.
 pub(crate) fn type_held(held: Held<'_>) -> Option<Ty> {
     narrow_type(*held.marks.first()?)
 }
@@ -349,7 +350,7 @@ fn are_marked(marks: &[Mark], mark: Mark) -> bool
     all
 }
 
-/// The type of what places hold, where all hold values of one type and these stand in words.
+/// The type of what places hold, where all hold values of one type and these fit it.
 pub(crate) fn row_type(marks: &[Mark]) -> Option<Ty>
     ensures { IfSome result (λ t. (k : ℕ) → k < length marks.now → slice_get marks.now k ≡ Some (narrow_mark t)) }
 {
@@ -361,15 +362,26 @@ pub(crate) fn row_type(marks: &[Mark]) -> Option<Ty>
     }
 }
 
-/// The words of as many places, put into a register, where all are of the type and stand in words.
+/// As many low bits, put into a register as words.
+fn copy_bits(numbers: LentNumbers<'_>, out: &mut [u32])
+    requires { length (lent numbers) ≡ length out.old }
+    ensures { (k : ℕ) → k < length out.new → bits_at out.new k ≡ bits_at (lent numbers.entry) k }
+{
+    match numbers {
+        LentNumbers::Words(words) => copy_each(words, out),
+        LentNumbers::Bytes(bytes) => put_bytes(bytes, out),
+    }
+}
+
+/// The low bits of the numbers of as many places, put into a register, where all are of the type and fit it.
 pub(crate) fn copy_words(held: Held<'_>, ty: Ty, out: &mut [u32]) -> Option<()>
     requires marks { length held.marks.now ≡ length out.old }
-    requires words { length held.words.now ≡ length out.old }
+    requires numbers { length (lent held.numbers) ≡ length out.old }
     ensures { IfSome result (λ _. (k : ℕ) → k < length out.new → along (places_held held.entry) (pos k) ≡ Some (Some (typed ty (word_at ty out.new k)))) }
 {
     if !are_marked(held.marks, narrow_mark(ty)) {
         return None;
     }
-    copy_each(held.words, out);
+    copy_bits(held.numbers, out);
     Some(())
 }

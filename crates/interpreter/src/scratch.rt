@@ -5,10 +5,12 @@ ghost use Rattle.plan.specs.View.{group_of};
 ghost use Rattle.plan.specs.Certificate.Certificate.{certificate_of};
 ghost use Rattle.interpreter.specs.Needs.{region_count};
 ghost use Rattle.plan.specs.Certificate.Cells.{own_region};
+ghost use Rattle.interpreter.specs.GivenNumbers.{given_list};
 ghost use Rattle.interpreter.specs.LowBits.{low_bits};
 ghost use Rattle.interpreter.specs.Scratches.{room_of, IsNotedFor, IsScratchForAll};
 
 use crate::buffers::larger;
+use crate::given::GivenBits;
 use crate::line_codes::{LineCode, line_codes};
 use crate::needs::{Needs, note_needs};
 use crate::run::own_region;
@@ -58,11 +60,12 @@ fn note_group(
 impl Scratch {
     /// Memory for the pieces of these groups of a plan, each of which gives at most so many numbers.
     ///
-    /// It takes 5 bytes a place of the buffers, and room of 8 that is not touched as long as all numbers fit their types, of each
-    /// number as many places as the group that asks for most of them, 24 bytes a line that binds a symbol, 4 bytes a count of the
-    /// largest grid, 16 bytes a coordinate of the points that the groups' pieces own and at which their lines fetch and store, 8
-    /// bytes an index of the calls in their stores, and 4 bytes a number, besides room of 8 that is not touched as long as all numbers
-    /// that a run gives are of one type and fit it.
+    /// It takes 2 bytes a place of the buffers as long as a buffer has held values of `u8` alone, then 5, and room of 8 that is not
+    /// touched as long as all numbers fit their types, of each number as many places as the group that asks for most of them, 24 bytes a
+    /// line that binds a symbol, 4 bytes a count of the largest grid, 16 bytes a coordinate of the points that the groups' pieces own and
+    /// at which their lines fetch and store, 8 bytes an index of the calls in their stores, and one byte a number that a run gives,
+    /// besides room of 4 that is not touched as long as all of them are of `u8` and fit it, and room of 8 that is not touched as long as
+    /// all are of one type and fit it.
     ///
     /// # Errors
     /// `AllocError` where memory runs out. A scratch has no room for buffers of more than four coordinates.
@@ -106,9 +109,9 @@ impl Scratch {
         self.state.given.len()
     }
 
-    /// The lowest 32 bits of the numbers that the last run gave, in two's complement.
-    pub fn given_bits(&self) -> &[u32]
-        ensures { result.now ≡ map low_bits self.now.state.given.items }
+    /// The low bits of the numbers that the last run gave: bytes where all of them are of `u8` and fit it, and else words of 32 bits.
+    pub fn given(&self) -> GivenBits<'_>
+        ensures { given_list result ≡ map low_bits self.now.state.given.items }
     {
         self.state.given.bits()
     }

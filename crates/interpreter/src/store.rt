@@ -1,10 +1,11 @@
 //! Stores and allocations.
 
-ghost use Rattle.std.specs.Prelude.{◌≡◌, ◌∷◌, ◌+◌, ◌≤◌, [], ℕ, ℤ, List, Some, None, All, IfSome, MatchOption, OnOk, length, map, take, drop, string_bytes};
+ghost use Rattle.std.specs.Prelude.{◌≡◌, ◌∷◌, ◌+◌, ◌≤◌, [], ℕ, ℤ, pos, ◌+ℤ◌, List, Some, None, All, IfSome, MatchOption, OnOk, length, map, take, drop, string_bytes};
 ghost use Rattle.tree.specs.declared.value.Value.{Value as ValueFound};
 ghost use Rattle.tree.specs.Term.{term_of};
 ghost use Rattle.meaning.specs.Names.{bound};
 ghost use Rattle.plan.specs.Rooms.{room};
+ghost use Rattle.plan.specs.Symbols.{bind};
 ghost use Rattle.plan.specs.View.{coordinate_of};
 ghost use Rattle.plan.specs.Semantics.Actions.{stored, Allot};
 ghost use Rattle.plan.specs.Semantics.Run.{Around, found_target};
@@ -31,7 +32,7 @@ use crate::reading::Reading;
 use crate::row::Row;
 use crate::sizes::size_in;
 use crate::state::State;
-use crate::symbols::Symbols;
+use crate::symbols::{Binding, Symbols};
 use crate::visits::set;
 use plan::{Coordinate, Index, Places};
 use smallvec::SmallVec;
@@ -103,6 +104,50 @@ pub(crate) fn known_numbers(coordinates: &[Coordinate], symbols: &Symbols, numbe
     numbers.clear();
     for coordinate in coordinates {
         numbers.push(known_number(coordinate, symbols));
+    }
+}
+
+/// The number of a coordinate at one turn of a loop, by that at the turn before: a form rises by the factor of the loop's symbol.
+fn later_number(
+    first: Binding,
+    second: Binding,
+    coordinate: &Coordinate,
+    symbols: &Symbols,
+    number: i64,
+) -> i64
+    requires same { second.symbol ≡ first.symbol }
+    requires next { second.value ≡ first.value +ℤ pos 1 }
+    requires number { number ≡ known_number (bind (symbols_of symbols.now) first.symbol first.value first.first) coordinate.now }
+    requires narrow { CoordinateIsNarrow (bind (symbols_of symbols.now) second.symbol second.value second.first) coordinate.now }
+    ensures { result ≡ known_number (bind (symbols_of symbols.now) second.symbol second.value second.first) coordinate.now }
+{
+    match &coordinate.index {
+        Index::Form(form) => number.wrapping_add(form.factor(second.symbol)),
+        Index::Found(_) => 0,
+    }
+}
+
+/// Notes the numbers of all coordinates at one turn of a loop, by those at the turn before.
+pub(crate) fn later_numbers(
+    first: Binding,
+    second: Binding,
+    coordinates: &[Coordinate],
+    symbols: &Symbols,
+    numbers: &[i64],
+    later: &mut Row,
+)
+    requires same { second.symbol ≡ first.symbol }
+    requires next { second.value ≡ first.value +ℤ pos 1 }
+    requires numbers { numbers.now ≡ map (known_number (bind (symbols_of symbols.now) first.symbol first.value first.first)) coordinates.now }
+    requires narrow { All (CoordinateIsNarrow (bind (symbols_of symbols.now) second.symbol second.value second.first)) coordinates.now }
+    requires room { length coordinates.now ≤ later.old.room }
+    ensures { later.new ≡ listed (map (known_number (bind (symbols_of symbols.now) second.symbol second.value second.first)) coordinates.now) later.old.room }
+{
+    later.clear();
+    for index in 0..coordinates.len() {
+        let coordinate = &coordinates[index];
+        let number = later_number(first, second, coordinate, symbols, numbers[index]);
+        later.push(number);
     }
 }
 

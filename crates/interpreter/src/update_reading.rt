@@ -14,8 +14,8 @@ ghost use Rattle.interpreter.specs.Updates.{bound_number, columns_at, update_num
 ghost use Rattle.plan.specs.View.{coordinate_of};
 
 use crate::evaluation::{Lanes, LentRow, Number, RunReader, narrow_words};
-use crate::run_reading::{RunReading, lanes_of};
-use meaning::sameness::same_name;
+use crate::loads::is_named;
+use crate::run_reading::{RunReading, lanes_of, rising_of, standing_of};
 use numeric::Ty;
 use plan::{Coordinate, Index};
 
@@ -72,7 +72,7 @@ fn bound_in<'m>(
                 return None;
             }
             let (column, behind) = columns.split_at(count);
-            if same_name(coordinate.variable.as_str(), name) {
+            if is_named(coordinate.variable.as_str(), name) {
                 Some(bound_by(coordinate, *number, *next, places, column))
             } else {
                 let places = places.saturating_sub(1);
@@ -135,6 +135,23 @@ fn lanes_in(column: &[Number], out: &mut [u32]) -> Option<Lanes>
     Some(Lanes::Vector(Ty::I32))
 }
 
+impl UpdateReading<'_, '_> {
+    /// What a variable stands for at the turns of a run.
+    fn bound_named(&self, name: &str) -> Option<Bound<'_>>
+        ensures { IfSome result (λ b. (k : ℕ) → k < self.now.count → bound_number b k ≡ variables_at self.now k name.now) }
+    {
+        bound_in(
+            self.reading.coordinates,
+            self.reading.first,
+            self.reading.second,
+            self.size,
+            self.columns,
+            self.count,
+            name,
+        )
+    }
+}
+
 impl RunReader for UpdateReading<'_, '_> {
     ghost variables = { variables_at };
 
@@ -146,18 +163,32 @@ impl RunReader for UpdateReading<'_, '_> {
         if out.len() != self.count {
             return None;
         }
-        let bound = bound_in(
-            self.reading.coordinates,
-            self.reading.first,
-            self.reading.second,
-            self.size,
-            self.columns,
-            self.count,
-            name,
-        )?;
+        let bound = self.bound_named(name)?;
         match bound {
             Bound::Steps(first, second) => lanes_of(first, second, out),
             Bound::Column(column) if column.len() == out.len() => lanes_in(column, out),
+            Bound::Column(_) => None,
+        }
+    }
+
+    fn standing(&self, name: &str, count: usize) -> Option<i64> {
+        if count > self.count {
+            return None;
+        }
+        let bound = self.bound_named(name)?;
+        match bound {
+            Bound::Steps(first, second) => standing_of(first, second),
+            Bound::Column(_) => None,
+        }
+    }
+
+    fn rising(&self, name: &str, count: usize) -> Option<i64> {
+        if count > self.count {
+            return None;
+        }
+        let bound = self.bound_named(name)?;
+        match bound {
+            Bound::Steps(first, second) => rising_of(first, second),
             Bound::Column(_) => None,
         }
     }

@@ -2,7 +2,7 @@
 //! stored to has is read and written turn by turn.
 
 ghost use Rattle.std.specs.Bool.{OnTrue};
-ghost use Rattle.std.specs.Prelude.{◌≡◌, ◌∷◌, ◌<◌, ◌≤◌, ◌+◌, ℕ, ℤ, List, pos, ◌+ℤ◌, ◌-ℤ◌, ◌*ℤ◌, ◌≤ℤ◌, ◌^◌, length, map, flat_map, All, IfSome, OnOk, Some, int_le, string_bytes};
+ghost use Rattle.std.specs.Prelude.{◌≡◌, ◌∷◌, ◌++◌, ◌<◌, ◌≤◌, ◌+◌, ℕ, ℤ, List, pos, ◌+ℤ◌, ◌-ℤ◌, ◌*ℤ◌, ◌≤ℤ◌, ◌^◌, drop, length, map, flat_map, All, IfSome, OnOk, Some, int_le, string_bytes};
 ghost use Rattle.tree.specs.declared.value.Value.{Value as ValueFound};
 ghost use Rattle.tree.specs.Term.{term_of};
 ghost use Rattle.meaning.specs.Names.{bound};
@@ -25,17 +25,17 @@ ghost use Rattle.interpreter.specs.Updates.{columns_at, operand_at, operation_at
 
 use crate::columns::{column_run, columns_run};
 use crate::evaluation::{Number, Stop, evaluate_numbers, fill, fill_rising, fill_steps};
-use crate::loads::claim_of;
+use crate::loads::{claim_of, is_named};
 use crate::piece::Piece;
 use crate::placing::{Places, Target};
 use crate::run_reading::RunReading;
 use crate::runs::{Part, StoreLine, numbers_in};
 use crate::sizes::size_in;
 use crate::state::State;
+use crate::store::later_numbers;
 use crate::symbols::Symbols;
 use crate::turns::turn;
 use crate::update_reading::{UpdateReading, are_few};
-use meaning::sameness::same_name;
 use numeric::{Op, Ty};
 use plan::{Coordinate, Index};
 use tree::Expr;
@@ -136,8 +136,8 @@ fn coordinate_run(
     Some(())
 }
 
-/// The numbers of a store's coordinates at so many turns of a run, put into a register each, one behind the other. The first
-/// so many are those of the point.
+/// The numbers of the first so many of a store's coordinates, those of the point, at so many turns of a run, put into a register each,
+/// one behind the other. The others are known by forms, and have registers that nothing is put into.
 fn coordinates_run(
     reader: &RunReading<'_, '_>,
     coordinates: &[Coordinate],
@@ -148,10 +148,14 @@ fn coordinates_run(
     registers: &mut [Number],
     words: &mut [u32],
 ) -> Option<()>
-    ensures { IfSome result (λ _. (m : Memory ValueFound) → IsBut reader.now.buffer (memory_of reader.now.memory.now) m → (k : ℕ) → k < count → place_numbers (bound (map (λ c. string_bytes c.variable) reader.now.coordinates.now) (numbers_at reader.now.first.now reader.now.second.now k)) (look (around reader.now.piece.now no_cells) m) places coordinates.now (numbers_at first.now second.now k) ≡ Some (columns_at count (length coordinates.now) registers.new k)) }
+    requires places { places ≤ length coordinates.now }
+    requires numbers { length first.now ≡ length coordinates.now }
+    ensures { IfSome result (λ _. (m : Memory ValueFound) → IsBut reader.now.buffer (memory_of reader.now.memory.now) m → (k : ℕ) → k < count → place_numbers (bound (map (λ c. string_bytes c.variable) reader.now.coordinates.now) (numbers_at reader.now.first.now reader.now.second.now k)) (look (around reader.now.piece.now no_cells) m) places coordinates.now (numbers_at first.now second.now k) ≡ Some (columns_at count places registers.new k ++ drop places (numbers_at first.now second.now k))) }
 {
+    if places == 0 {
+        return Some(());
+    }
     match (coordinates, first, second) {
-        ([], _, _) => Some(()),
         ([coordinate, coordinates @ ..], [number, first @ ..], [next, second @ ..]) => {
             coordinate_run(
                 reader, coordinate, *number, *next, places, count, registers, words,
@@ -160,13 +164,12 @@ fn coordinates_run(
                 return None;
             }
             let (_, rest) = registers.split_at_mut(count);
-            let places = places.saturating_sub(1);
             coordinates_run(
                 reader,
                 coordinates,
                 first,
                 second,
-                places,
+                places - 1,
                 count,
                 rest,
                 words,
@@ -180,7 +183,7 @@ fn coordinates_run(
 fn claimed_buffer(piece: &Piece<'_>, name: &str) -> Option<u64>
     ensures { IfSome result (λ b. (m : Memory ValueFound) (p : List ℤ) → look (around piece.now no_cells) m name.now p ≡ read m b p) }
 {
-    if same_name(name, piece.plan.input.name.as_str()) {
+    if is_named(name, piece.plan.input.name.as_str()) {
         return None;
     }
     let claim = piece.cert.claims.get(claim_of(name)?)?;
@@ -273,7 +276,7 @@ fn update_run(
     ensures finds { IfSome result (λ u. (m : Memory ValueFound) → IsBut reader.now.buffer (memory_of reader.now.memory.now) m → (k : ℕ) → k < count → FindsTurn (bound (map (λ c. string_bytes c.variable) reader.now.coordinates.now) (numbers_at reader.now.first.now reader.now.second.now k)) (numbers_at reader.now.first.now reader.now.second.now k) reader.now.buffer size count reader.now.coordinates.now (term_of value.now) (look (around reader.now.piece.now no_cells) m) u registers.new m k) }
 {
     let coordinates = reader.coordinates;
-    if size > 4 || size > coordinates.len() {
+    if size > 4 || size > coordinates.len() || reader.first.len() != coordinates.len() {
         return None;
     }
     coordinates_run(
@@ -336,17 +339,15 @@ pub(crate) fn update_part<'a>(
     if !is_update(piece, line) {
         return None;
     }
-    let second = part.low + 1;
-    numbers_in(
-        turn(part.turns, part.low),
+    let first = turn(part.turns, part.low);
+    let second = turn(part.turns, part.low + 1);
+    numbers_in(first, line.coordinates, symbols, &mut state.numbers);
+    later_numbers(
+        first,
+        second,
         line.coordinates,
         symbols,
-        &mut state.numbers,
-    );
-    numbers_in(
-        turn(part.turns, second),
-        line.coordinates,
-        symbols,
+        state.numbers.as_slice(),
         &mut state.point,
     );
     let reader = RunReading {

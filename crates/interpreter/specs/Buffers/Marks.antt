@@ -1,4 +1,4 @@
--- What places hold, by a list of marks, a list of words, and a list of the numbers that do not fit their types.
+-- What places hold, by a list of marks, a list of the low bits of their numbers, and a list of the numbers that do not fit their types.
 use Rattle.std.specs.Prelude.{ℕ, zero, suc, ◌+◌, List, [], ◌∷◌, drop, Option, Some, None, ℤ, pos, slice_index_or, slice_set}
 use Rattle.numeric.specs.declared.ty.Ty.{Ty}
 use Rattle.numeric.specs.declared.ty.Ty.TheVariants.{U8, U16, U32, I8, I16, I32}
@@ -6,6 +6,7 @@ use Rattle.numeric.specs.Wrap.{wrap}
 use Rattle.tree.specs.declared.value.Value.{Value}
 use Rattle.tree.specs.Meaning.{typed}
 use Rattle.interpreter.specs.Evaluation.Lanes.{number_at}
+use Rattle.interpreter.specs.Evaluation.Lending.{lent}
 use Rattle.interpreter.specs.declared.buffers.held.Held.{Held}
 use Rattle.interpreter.specs.declared.buffers.marks.Mark.{Mark}
 use Rattle.interpreter.specs.declared.buffers.marks.Mark.TheVariants as mark
@@ -64,7 +65,7 @@ held_places (m ∷ ms) ws zs = held_by m (word_in ws 0) (number_at zs 0) ∷ hel
 
 -- what places side by side hold
 abbrev pub places_held : Held → List (Option Value)
-places_held h = held_places h.marks.now h.words.now h.wides.now
+places_held h = held_places h.marks.now (lent h.numbers) h.wides.now
 
 -- places after so many values were set, one after another, from the place of this number on
 abbrev pub row_held : (ℕ → Value) → ℕ → List (Option Value) → ℕ → List (Option Value)

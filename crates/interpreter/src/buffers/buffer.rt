@@ -16,15 +16,14 @@ ghost use Rattle.interpreter.specs.HeldTurns.{turned, with_places};
 ghost use Rattle.interpreter.specs.PlaceNumbers.{place_at};
 ghost use Rattle.interpreter.specs.Updates.{columns_at};
 
-use crate::buffers::held::{
-    Held, held_at, held_window, make_as_many, place_behind, put_cells, put_row_of_words, set_held,
-    unset_all,
-};
+use crate::buffers::held::{Held, held_window, place_behind, place_held, unset_all};
 use crate::buffers::limit::Limit;
 use crate::buffers::marks::Mark;
+use crate::buffers::place_bits::{PlaceBits, lent, make_as_many, one_number, widen};
 use crate::buffers::raster::{place_columns, place_count, place_number};
 use crate::buffers::rising::{rise_from, rising, standing};
 use crate::buffers::room::Rooms;
+use crate::buffers::setting::{put_cell_row, put_row, set_place};
 use crate::buffers::stretch::stretch_of;
 use crate::buffers::turning::turn_all;
 use crate::cells::CellRow;
@@ -40,8 +39,8 @@ use std::marker::Model;
 use tree::Value;
 
 /// A buffer: its number, for how many places there is memory, whether it is in use, the places of each coordinate, and
-/// what all places hold in raster order: a mark and a word each, and the numbers that do not fit their types, as far as there are
-/// such.
+/// what all places hold in raster order: a mark and the low bits of a number each, and the numbers that do not fit their types, as far
+/// as there are such.
 #[derive(Drop)]
 pub struct Buffer {
     number: u64,
@@ -49,7 +48,7 @@ pub struct Buffer {
     is_used: bool,
     rooms: Rooms,
     marks: Vec<Mark>,
-    words: Vec<u32>,
+    bits: PlaceBits,
     wides: Vec<Number>,
 }
 
@@ -57,14 +56,15 @@ impl Model for Buffer {
     ghost use Rattle.std.specs.Prelude.{◌≡◌, ◌<◌, ◌≤◌, ◌^◌, map, length, vec_capacity};
     ghost use Rattle.interpreter.specs.Buffers.Blocks.{Block};
     ghost use Rattle.interpreter.specs.Buffers.Marks.{held_places};
+    ghost use Rattle.interpreter.specs.Buffers.PlaceBits.{bits_of};
     ghost use Rattle.interpreter.specs.Buffers.Rooms.{room_of};
     ghost use Rattle.interpreter.specs.Buffers.Raster.{place_count};
 
     ghost Value = { Block };
 
-    ghost view = { λ b. record { number = b.number; limit = b.limit; used = b.is_used; rooms = map room_of b.rooms.items; places = held_places b.marks.items b.words.items b.wides.items } };
+    ghost view = { λ b. record { number = b.number; limit = b.limit; used = b.is_used; rooms = map room_of b.rooms.items; places = held_places b.marks.items (bits_of b.bits) b.wides.items } };
 
-    ghost invariant = { λ b. (length b.marks.items ≡ place_count (map room_of b.rooms.items)) × (place_count (map room_of b.rooms.items) < 2 ^ 64) × (b.limit ≤ vec_capacity b.marks) × (b.limit < 2 ^ 64) × (length b.words.items ≡ length b.marks.items) × (b.limit ≤ vec_capacity b.words) × (length b.marks.items ≤ vec_capacity b.wides) × (b.limit ≤ vec_capacity b.wides) };
+    ghost invariant = { λ b. (length b.marks.items ≡ place_count (map room_of b.rooms.items)) × (place_count (map room_of b.rooms.items) < 2 ^ 64) × (b.limit ≤ vec_capacity b.marks) × (b.limit < 2 ^ 64) × (length (bits_of b.bits) ≡ length b.marks.items) × (b.limit ≤ vec_capacity b.bits.bytes) × (b.limit ≤ vec_capacity b.bits.words) × (length b.marks.items ≤ vec_capacity b.bits.words) × (length b.marks.items ≤ vec_capacity b.wides) × (b.limit ≤ vec_capacity b.wides) };
 }
 
 /// Whether there are so many behind those that are skipped.
@@ -86,19 +86,18 @@ fn sum(left: usize, right: usize) -> Option<usize>
 }
 
 impl Buffer {
-    /// A buffer that is not in use. It takes memory for its places, 5 bytes each, and room of 8 bytes
-    /// each that is not touched as long as all numbers fit their types.
+    /// A buffer that is not in use. It takes memory for its places: 2 bytes each as long as all values are of `u8`, then 5, and room of
+    /// 8 bytes each that is not touched as long as all numbers fit their types.
     pub(crate) fn new(alloc: Global, limit: Limit) -> Result<Buffer, AllocError>
         ensures number { IfOk result (λ b. b.number ≡ limit.buffer) }
         ensures limit { IfOk result (λ b. b.limit ≡ limit.places) }
         ensures unused { IfOk result (λ b. b.used ≡ false) }
     {
         let mut marks = Vec::with_capacity(alloc, limit.places)?;
-        let mut words = Vec::with_capacity(alloc, limit.places)?;
+        let bits = one_number(alloc, limit.places)?;
         let mut wides = Vec::with_capacity(alloc, limit.places)?;
         // Without coordinates there is one place.
         marks.push(Mark::Unset)?;
-        words.push(0)?;
         wides.push(Number { value: 0 })?;
         Ok(Buffer {
             number: limit.buffer,
@@ -106,7 +105,7 @@ impl Buffer {
             is_used: false,
             rooms: SmallVec::new(alloc),
             marks,
-            words,
+            bits,
             wides,
         })
     }
@@ -136,8 +135,8 @@ impl Buffer {
             unreachable!()
         };
         unset_all(&mut self.marks, count);
-        // What an unset place has as its word is no matter.
-        make_as_many(&mut self.words, count);
+        // What an unset place has as its low bits is no matter.
+        make_as_many(&mut self.bits, count);
         self.rooms = rooms;
     }
 
@@ -153,7 +152,7 @@ impl Buffer {
         ensures { result ≡ held_at (held_in self.now) (place self.now.rooms at.now) }
     {
         let number = place_number(&self.rooms, at)?;
-        held_at(&self.marks, &self.words, &self.wides, number)
+        place_held(self.held(), number)
     }
 
     /// What all places hold.
@@ -162,7 +161,7 @@ impl Buffer {
     {
         Held {
             marks: self.marks.as_slice(),
-            words: self.words.as_slice(),
+            numbers: lent(&self.bits),
             wides: self.wides.as_slice(),
         }
     }
@@ -275,8 +274,9 @@ impl Buffer {
         ensures turned { option_map (λ _. self.new) result ≡ option_map (with_places self.old) (turned operation numbers.now behind.now places.now.point.now places.now.left.now places.now.right.now self.old.places count) }
         ensures counted { length self.old.places ≡ place_count self.old.rooms }
     {
+        widen(&mut self.bits);
         let marks = self.marks.as_mut_slice();
-        let words = self.words.as_mut_slice();
+        let words = self.bits.words.as_mut_slice();
         let wides = &mut self.wides;
         turn_all(
             operation, numbers, behind, places, count, marks, words, wides,
@@ -293,8 +293,7 @@ impl Buffer {
     {
         let target = place_behind(self.marks.len(), place, behind);
         let marks = self.marks.as_mut_slice();
-        let words = self.words.as_mut_slice();
-        set_held(marks, words, &mut self.wides, target, value);
+        set_place(marks, &mut self.bits, &mut self.wides, target, value);
     }
 
     /// Sets the places from one on, one after another, each to the value of the type whose low bits a word has.
@@ -305,8 +304,7 @@ impl Buffer {
         ensures counted { length self.old.places ≡ place_count self.old.rooms }
     {
         let marks = self.marks.as_mut_slice();
-        let words = self.words.as_mut_slice();
-        put_row_of_words(marks, words, place, ty, from);
+        put_row(marks, &mut self.bits, place, ty, from);
     }
 
     /// Sets the places from one on, one after another, each to the value of a row of cells.
@@ -317,8 +315,7 @@ impl Buffer {
         ensures counted { length self.old.places ≡ place_count self.old.rooms }
     {
         let marks = self.marks.as_mut_slice();
-        let words = self.words.as_mut_slice();
-        put_cells(marks, words, &mut self.wides, place, row);
+        put_cell_row(marks, &mut self.bits, &mut self.wides, place, row);
     }
 
     /// Sets the place of a point; `false` where the point has none.
@@ -329,8 +326,7 @@ impl Buffer {
         match place_number(&self.rooms, at) {
             Some(number) => {
                 let marks = self.marks.as_mut_slice();
-                let words = self.words.as_mut_slice();
-                set_held(marks, words, &mut self.wides, number, value);
+                set_place(marks, &mut self.bits, &mut self.wides, number, value);
                 true
             }
             None => false,

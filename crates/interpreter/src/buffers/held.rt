@@ -1,4 +1,5 @@
-//! What places hold, as three lists: a mark and a word for each of them, and the numbers of those whose value does not fit its type.
+//! What places hold, as three lists: a mark and the low bits of a number for each of them, and the numbers of those whose value does
+//! not fit its type.
 
 ghost use Rattle.std.specs.Prelude.{◌≡◌, ◌<◌, ◌≤◌, ◌+◌, ℕ, List, length, take, drop, pos, replicate, slice_index_or, slice_set, vec_capacity, IfSome, Some, None};
 ghost use Rattle.std.specs.Bool.{OnTrue};
@@ -11,24 +12,25 @@ ghost use Rattle.interpreter.specs.Buffers.SetRows.{set_row};
 ghost use Rattle.interpreter.specs.CellRows.{row_value, told_value, number_told};
 ghost use Rattle.interpreter.specs.declared.cells.NumberKind.TheVariants.{Exact, Bits};
 ghost use Rattle.interpreter.specs.Evaluation.Lanes.{number_at};
+ghost use Rattle.interpreter.specs.Evaluation.Lending.{lent};
 
 use crate::buffers::marks::{Mark, narrow_mark, wide_mark};
 use crate::buffers::words::{fits, value_in_word};
 use crate::cells::{CellRow, NumberKind};
 use crate::evaluation::{
-    Number, Signed8, Signed16, Signed32, Unsigned8, Unsigned16, Unsigned32, Width, low_word,
-    word_number,
+    LentNumbers, Number, Signed8, Signed16, Signed32, Unsigned8, Unsigned16, Unsigned32, Width,
+    low_word, word_number,
 };
 use crate::run_reading::registers_behind;
 use crate::scanlines::window;
 use numeric::Ty;
 use tree::Value;
 
-/// Places side by side: of each its mark and its word, and the numbers that stand apart, as far as there are such.
+/// Places side by side: of each its mark and the low bits of its number, and the numbers that stand apart, as far as there are such.
 #[derive(Clone, Copy, Drop)]
 pub struct Held<'a> {
     pub marks: &'a [Mark],
-    pub words: &'a [u32],
+    pub numbers: LentNumbers<'a>,
     pub wides: &'a [Number],
 }
 
@@ -40,17 +42,6 @@ pub(crate) fn unset_all(marks: &mut Vec<Mark>, count: usize)
 {
     marks.clear();
     let Ok(()) = marks.resize(count, Mark::Unset) else {
-        unreachable!()
-    };
-}
-
-/// Makes so many words of some.
-pub(crate) fn make_as_many(words: &mut Vec<u32>, count: usize)
-    requires { count ≤ vec_capacity words.old }
-    ensures count { length words.new.items ≡ count }
-    ensures capacity { vec_capacity words.old ≤ vec_capacity words.new }
-{
-    let Ok(()) = words.resize(count, 0) else {
         unreachable!()
     };
 }
@@ -109,22 +100,46 @@ fn word_there(words: &[u32], place: usize) -> u32
     }
 }
 
-/// What the place of a number holds, where it has a mark and a word.
+/// The byte of a place as a word, 0 behind the last.
 #[inline(always)]
-pub(crate) fn held_inside(
-    marks: &[Mark],
-    words: &[u32],
-    wides: &[Number],
-    place: usize,
-) -> Option<Value>
-    requires marks { place < length marks.now }
-    requires words { length words.now ≡ length marks.now }
-    ensures { result ≡ slice_index_or (held_places marks.now words.now wides.now) place None }
+fn byte_there(bytes: &[u8], place: usize) -> u32
+    ensures { result ≡ word_in bytes.now place }
 {
-    held_by(marks[place], words[place], wides, place)
+    match bytes.get(place) {
+        Some(byte) => u32::from(*byte),
+        None => 0,
+    }
+}
+
+/// The low bits of a place's number, 0 behind the last.
+#[inline(always)]
+fn bits_there(numbers: LentNumbers<'_>, place: usize) -> u32
+    ensures { result ≡ word_in (lent numbers.entry) place }
+{
+    match numbers {
+        LentNumbers::Words(words) => word_there(words, place),
+        LentNumbers::Bytes(bytes) => byte_there(bytes, place),
+    }
 }
 
 /// What the place of a number holds; nothing behind the last.
+#[inline(always)]
+#[tactic(auto, using(crate::proofs::HeldPlaces::held_outside))]
+pub(crate) fn place_held(held: Held<'_>, place: usize) -> Option<Value>
+    ensures { result ≡ slice_index_or (places_held held.entry) place None }
+{
+    if place >= held.marks.len() {
+        return None;
+    }
+    held_by(
+        held.marks[place],
+        bits_there(held.numbers, place),
+        held.wides,
+        place,
+    )
+}
+
+/// The same, where the numbers stand in words.
 #[inline(always)]
 #[tactic(auto, using(crate::proofs::HeldPlaces::held_outside))]
 pub(crate) fn held_at(
@@ -183,7 +198,7 @@ fn put_word(marks: &mut [Mark], words: &mut [u32], place: usize, ty: Ty, word: u
 }
 
 /// Gives so many places the mark, from one on.
-fn mark_row(marks: &mut [Mark], place: usize, count: usize, mark: Mark)
+pub(crate) fn mark_row(marks: &mut [Mark], place: usize, count: usize, mark: Mark)
     requires { place + count ≤ length marks.old }
     ensures { marks.new ≡ set_row (λ _. mark) place marks.old count }
 {
@@ -251,19 +266,30 @@ pub(crate) fn set_held(
     }
 }
 
+/// So many of the low bits from one on, if there are so many.
+fn window_of(numbers: LentNumbers<'_>, start: usize, count: usize) -> Option<LentNumbers<'_>>
+    ensures count { IfSome result (λ w. length (lent w) ≡ count) }
+    ensures same { IfSome result (λ w. lent w ≡ take count (drop start (lent numbers.entry))) }
+{
+    match numbers {
+        LentNumbers::Words(words) => Some(LentNumbers::Words(window(words, start, count)?)),
+        LentNumbers::Bytes(bytes) => Some(LentNumbers::Bytes(window(bytes, start, count)?)),
+    }
+}
+
 /// So many places from one on, if there are so many.
 #[tactic(auto, using(crate::proofs::HeldPlaces::window_held))]
 pub(crate) fn held_window(held: Held<'_>, start: usize, count: usize) -> Option<Held<'_>>
     ensures marks { IfSome result (λ w. length w.marks.now ≡ count) }
-    ensures words { IfSome result (λ w. length w.words.now ≡ count) }
+    ensures numbers { IfSome result (λ w. length (lent w.numbers) ≡ count) }
     ensures same { IfSome result (λ w. places_held w ≡ take count (drop start (places_held held.entry))) }
 {
     let marks = window(held.marks, start, count)?;
-    let words = window(held.words, start, count)?;
+    let numbers = window_of(held.numbers, start, count)?;
     let wides = registers_behind(held.wides, start);
     Some(Held {
         marks,
-        words,
+        numbers,
         wides,
     })
 }
@@ -326,7 +352,7 @@ pub(crate) fn place_behind(all: usize, place: usize, behind: usize) -> usize
 }
 
 /// Whether all numbers fit a type. All are looked at, so that several are at once.
-fn are_within(ty: Ty, numbers: &[i64]) -> bool
+pub(crate) fn are_within(ty: Ty, numbers: &[i64]) -> bool
     ensures { OnTrue result ((k : ℕ) → k < length numbers.now → IsOf ty (number_told numbers.now k)) }
 {
     let mut all = true;

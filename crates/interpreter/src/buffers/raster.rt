@@ -81,12 +81,14 @@ fn place_by_each(rooms: &[Room], at: &[i64]) -> Option<usize>
     }
 }
 
-/// The number of a point's place in raster order; nothing where the point has no place. Two coordinates, and three, are taken at once.
+/// The number of a point's place in raster order; nothing where the point has no place. One coordinate is taken by itself, and two
+/// or three at once.
 pub(crate) fn place_number(rooms: &[Room], at: &[i64]) -> Option<usize>
     requires { place_count (map room_of rooms.now) < 2 ^ 64 }
     ensures { MatchOption result (place (map room_of rooms.now) at.now ≡ None) (λ n. LiesAt (map room_of rooms.now) at.now n) }
 {
     match (rooms, at) {
+        ([room], [coordinate]) => place_of_one(room, *coordinate),
         ([first, second], [x, y]) => place_of_two(first, second, *x, *y),
         ([first, second, third], [x, y, z]) => place_of_three(first, second, third, *x, *y, *z),
         _ => place_by_each(rooms, at),
@@ -220,6 +222,54 @@ fn end_of(origin: i64, width: u32, count: usize, numbers: &[Number]) -> Option<i
     Some(end)
 }
 
+/// How far a number lies behind the origin, modulo 2^64. In a room of more places from the origin on, that is the number's place.
+#[inline(always)]
+fn distance(origin: i64, number: Number) -> usize
+    ensures { (width : ℕ) → (origin +ℤ pos width) ≤ℤ pos (2 ^ 63) → result < width → IsOneMore (Straight origin width) number.value 0 result }
+{
+    let from = origin.cast_unsigned();
+    number.value.cast_unsigned().wrapping_sub(from) as usize
+}
+
+/// Puts in how far the first so many numbers lie behind the origin: all bits that one of these has, which together are no less than
+/// each. In a room of more places from the origin on, they are the numbers' places.
+fn put_distances(origin: i64, count: usize, numbers: &[Number], places: &mut [usize]) -> usize
+    requires numbers { count ≤ length numbers.now }
+    requires count { count ≤ length places.old }
+    ensures { (width k : ℕ) → (origin +ℤ pos width) ≤ℤ pos (2 ^ 63) → result < width → k < count → IsOneMore (Straight origin width) (number_at numbers.now k) 0 (place_at places.new k) }
+{
+    let mut bits = 0;
+    for turn in 0..count {
+        let one = distance(origin, numbers[turn]);
+        places[turn] = one;
+        bits = bits | one;
+    }
+    bits
+}
+
+/// Puts in the numbers of the first so many places of one coordinate, where it has so many places from the origin on: a power of two,
+/// or a number that has a place may be taken for one that has none.
+fn first_distances(
+    origin: i64,
+    width: u32,
+    count: usize,
+    numbers: &[Number],
+    places: &mut [usize],
+) -> Option<()>
+    requires { count ≤ length places.old }
+    ensures { IfSome result (λ _. (k : ℕ) → k < count → IsOneMore (Straight origin width) (number_at numbers.now k) 0 (place_at places.new k)) }
+{
+    if numbers.len() < count || origin > i64::MAX - i64::from(width) {
+        return None;
+    }
+    let bits = put_distances(origin, count, numbers, places);
+    if bits < width as usize {
+        Some(())
+    } else {
+        None
+    }
+}
+
 /// Puts in the numbers of the first so many places of one coordinate, where it has so many places from the origin on.
 fn first_from_origin(
     origin: i64,
@@ -232,6 +282,9 @@ fn first_from_origin(
     ensures { IfSome result (λ _. (k : ℕ) → k < count → IsOneMore (Straight origin width) (number_at numbers.now k) 0 (place_at places.new k)) }
 {
     let width = u32::try_from(width).ok()?;
+    if width.is_power_of_two() {
+        return first_distances(origin, width, count, numbers, places);
+    }
     let end = end_of(origin, width, count, numbers)?;
     first_column(origin, end, width, count, numbers, places);
     Some(())

@@ -27,3 +27,24 @@ pub(crate) fn apply_bytes_to<O: ResidueOperator>(left: Number, right: &[u8], out
         out[turn] = O::residue(left.value, i64::from(right[turn]));
     }
 }
+
+/// The operator on each byte of one row and the one of another, put into a register.
+pub(crate) fn apply_byte_rows<O: ResidueOperator>(left: &[u8], right: &[u8], out: &mut [u32])
+    requires left { length left.now ≡ length out.old }
+    requires right { length right.now ≡ length out.old }
+    ensures { (t : TyFound) (k : ℕ) → k < length out.new → word_at t out.new k ≡ apply O.op t (word_at t left.now k) (word_at t right.now k) }
+{
+    for turn in 0..out.len() {
+        out[turn] = O::residue(i64::from(left[turn]), i64::from(right[turn]));
+    }
+}
+
+/// The operator on each byte of a row and one number, put into a register.
+pub(crate) fn apply_byte_row_by<O: ResidueOperator>(left: &[u8], right: Number, out: &mut [u32])
+    requires { length left.now ≡ length out.old }
+    ensures { (t : TyFound) (k : ℕ) → k < length out.new → word_at t out.new k ≡ apply O.op t (word_at t left.now k) right.value }
+{
+    for turn in 0..out.len() {
+        out[turn] = O::residue(i64::from(left[turn]), right.value);
+    }
+}

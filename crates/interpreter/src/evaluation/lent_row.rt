@@ -1,5 +1,10 @@
 //! Rows of numbers that a reader lends.
 
+ghost use Rattle.std.specs.Prelude.{◌≡◌, ◌<◌, ◌≤◌, IfSome, IfNone, length, take, drop};
+ghost use Rattle.interpreter.specs.Evaluation.Lending.{lent, lent_bits};
+ghost use Rattle.interpreter.specs.Evaluation.Words.{bits_at};
+
+use crate::scanlines::window;
 use numeric::Ty;
 
 /// Numbers side by side that lie where they are kept, so that nothing is copied.
@@ -16,4 +21,85 @@ pub enum LentNumbers<'a> {
 pub struct LentRow<'a> {
     pub ty: Ty,
     pub numbers: LentNumbers<'a>,
+}
+
+/// Numbers for the turns of a run, each of which is a number of the type as the words of registers are: one at the first turns, then
+/// those that are lent, and another one at all turns behind them.
+#[derive(Clone, Copy, Drop)]
+pub(crate) struct LentOperand<'a> {
+    pub ty: Ty,
+    pub before: usize,
+    pub low: u32,
+    pub numbers: LentNumbers<'a>,
+    pub high: u32,
+}
+
+impl LentNumbers<'_> {
+    /// How many numbers there are.
+    pub(crate) fn count(self) -> usize
+        ensures { result ≡ length (lent self.entry) }
+    {
+        match self {
+            LentNumbers::Words(words) => words.len(),
+            LentNumbers::Bytes(bytes) => bytes.len(),
+        }
+    }
+}
+
+/// The bits of the lent number at a place, if there is one.
+pub(crate) fn word_of(numbers: LentNumbers<'_>, place: usize) -> Option<u32>
+    ensures inside { IfSome result (λ _. place < length (lent numbers.entry)) }
+    ensures word { IfSome result (λ w. w ≡ bits_at (lent numbers.entry) place) }
+    ensures behind { IfNone result (length (lent numbers.entry) ≤ place) }
+{
+    match numbers {
+        LentNumbers::Words(words) => {
+            if words.len() <= place {
+                return None;
+            }
+            Some(words[place])
+        }
+        LentNumbers::Bytes(bytes) => {
+            if bytes.len() <= place {
+                return None;
+            }
+            Some(u32::from(bytes[place]))
+        }
+    }
+}
+
+impl LentOperand<'_> {
+    /// The bits of the number for a turn.
+    pub(crate) fn bits(self, turn: usize) -> u32
+        ensures { result ≡ lent_bits self.entry turn }
+    {
+        if turn < self.before {
+            return self.low;
+        }
+        match word_of(self.numbers, turn - self.before) {
+            Some(word) => word,
+            None => self.high,
+        }
+    }
+}
+
+/// So many lent numbers from a place on, if they reach so far.
+pub(crate) fn part_of<'a>(
+    numbers: LentNumbers<'a>,
+    from: usize,
+    count: usize,
+) -> Option<LentNumbers<'a>>
+    ensures count { IfSome result (λ part. length (lent part) ≡ count) }
+    ensures numbers { IfSome result (λ part. lent part ≡ take count (drop from (lent numbers.entry))) }
+{
+    match numbers {
+        LentNumbers::Words(words) => {
+            let part = window(words, from, count)?;
+            Some(LentNumbers::Words(part))
+        }
+        LentNumbers::Bytes(bytes) => {
+            let part = window(bytes, from, count)?;
+            Some(LentNumbers::Bytes(part))
+        }
+    }
 }

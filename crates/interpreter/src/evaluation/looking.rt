@@ -3,7 +3,6 @@
 ghost use Rattle.std.specs.Prelude.{◌≡◌, ◌∷◌, ◌<◌, ◌≤◌, ◌+◌, ◌+ℤ◌, ◌≤ℤ◌, ℕ, List, pos, IfSome, Some, length};
 ghost use Rattle.plan.specs.Semantics.Memory.{Memory};
 ghost use Rattle.tree.specs.declared.value.Value.{Value as ValueFound};
-ghost use Rattle.numeric.specs.Wrap.{wrap};
 ghost use Rattle.tree.specs.Meaning.{typed};
 ghost use Rattle.interpreter.specs.Evaluation.Lanes.{clamped_number, found_as, lane_number, lanes_at, number_at};
 ghost use Rattle.interpreter.specs.Evaluation.Words.{word_at};
@@ -22,7 +21,7 @@ use numeric::Ty;
 const SHORT_RUN: usize = 128;
 
 /// The number of lanes that have one value at all turns.
-pub(crate) fn fixed(lanes: Lanes) -> Option<i64>
+fn fixed(lanes: Lanes) -> Option<i64>
     ensures { IfSome result (λ z. (ws : List ℕ) (k : ℕ) → lane_number lanes ws k ≡ z) }
 {
     match lanes {
@@ -207,7 +206,7 @@ fn look_rising<R: RunReader>(
 /// How many of so many turns of a ramp come before it reaches a number.
 fn turns_below(first: i64, number: i64, count: usize) -> Option<usize>
     ensures most { IfSome result (λ n. n ≤ count) }
-    ensures below { IfSome result (λ n. (k : ℕ) → k < n → (first +ℤ pos k) ≤ℤ number) }
+    ensures below { IfSome result (λ n. (k : ℕ) → k < n → (first +ℤ pos (k + 1)) ≤ℤ number) }
     ensures above { IfSome result (λ n. (k : ℕ) → n ≤ k → k < count → number ≤ℤ (first +ℤ pos k)) }
 {
     if number <= first {
@@ -221,48 +220,6 @@ fn turns_below(first: i64, number: i64, count: usize) -> Option<usize>
     }
 }
 
-/// What a name finds at this first index, of the type, put in for each turn.
-fn look_standing<R: RunReader>(
-    name: &str,
-    first: i64,
-    others: &[i64],
-    ty: Ty,
-    cast: Option<Ty>,
-    reader: &R,
-    out: &mut [u32],
-) -> Option<()>
-    ensures { IfSome result (λ _. (m : Memory ValueFound) → R.agrees reader.now m → (k : ℕ) → k < length out.new → found_as cast (R.look reader.now m name.now (first ∷ others.now)) ≡ Some (typed ty (word_at ty out.new k))) }
-{
-    if out.len() == 0 {
-        return Some(());
-    }
-    let found = look_once(name, first, others, ty, cast, reader, out)?;
-    fill_words(found, out);
-    Some(())
-}
-
-/// What a name finds at this first index, of the type, by way of the register.
-fn look_once<R: RunReader>(
-    name: &str,
-    first: i64,
-    others: &[i64],
-    ty: Ty,
-    cast: Option<Ty>,
-    reader: &R,
-    out: &mut [u32],
-) -> Option<u32>
-    ensures { IfSome result (λ w. (m : Memory ValueFound) → R.agrees reader.now m → found_as cast (R.look reader.now m name.now (first ∷ others.now)) ≡ Some (typed ty (wrap ty (pos w)))) }
-{
-    if out.len() < 1 {
-        return None;
-    }
-    let (one, _) = out.split_at_mut(1);
-    if reader.look_row(name, first, others, cast, one)? != ty {
-        return None;
-    }
-    Some(one[0])
-}
-
 /// The number that lies so many behind another, if it is of 64 bits.
 pub(crate) fn number_after(first: i64, turns: usize) -> Option<i64>
     ensures { IfSome result (λ z. z ≡ first +ℤ pos turns) }
@@ -270,34 +227,43 @@ pub(crate) fn number_after(first: i64, turns: usize) -> Option<i64>
     first.checked_add(i64::try_from(turns).ok()?)
 }
 
-/// Where a clamped ramp leaves its lower end and where it reaches its upper end, if it does anything between them.
+/// The turns between which a clamped ramp rises by one at each, from this number on: it stays there before them, and at the last one's
+/// number behind them.
 #[derive(Clone, Copy, Drop)]
-struct Bends {
-    start: i64,
-    before: usize,
-    after: usize,
+pub(crate) struct Bends {
+    pub start: i64,
+    pub before: usize,
+    pub after: usize,
 }
 
-/// Where a clamped ramp bends in so many turns.
-fn bends_of(ramp: ClampedRamp, count: usize) -> Option<Bends>
-    ensures order { IfSome result (λ b. (b.before ≤ b.after) × (b.after ≤ count)) }
-    ensures low { IfSome result (λ b. (k : ℕ) → k < b.before → clamped_number ramp k ≡ ramp.low.value) }
+/// One turn more than so many, of a number of turns.
+fn one_turn_more(turns: usize, count: usize) -> usize
+    ensures more { turns < count → result ≡ turns + 1 }
+    ensures all { count ≤ turns → result ≡ count }
+{
+    if turns < count { turns + 1 } else { count }
+}
+
+/// Where a clamped ramp bends in so many turns, if it rises in them.
+pub(crate) fn bends_of(ramp: ClampedRamp, count: usize) -> Option<Bends>
+    ensures order { IfSome result (λ b. (b.before < b.after) × (b.after ≤ count)) }
+    ensures low { IfSome result (λ b. (k : ℕ) → k < b.before → clamped_number ramp k ≡ b.start) }
     ensures rising { IfSome result (λ b. (k : ℕ) → b.before + k < b.after → clamped_number ramp (b.before + k) ≡ b.start +ℤ pos k) }
-    ensures high { IfSome result (λ b. (k : ℕ) → b.after ≤ k → k < count → clamped_number ramp k ≡ ramp.high.value) }
+    ensures high { IfSome result (λ b. (k last : ℕ) → b.after ≤ k → k < count → b.before + last + 1 ≡ b.after → clamped_number ramp k ≡ b.start +ℤ pos last) }
 {
     if ramp.high.value < ramp.low.value {
         return None;
     }
     let before = turns_below(ramp.first.value, ramp.low.value, count)?;
-    let after = turns_below(ramp.first.value, ramp.high.value, count)?;
-    if after <= before {
+    let reached = turns_below(ramp.first.value, ramp.high.value, count)?;
+    if reached <= before {
         return None;
     }
     let start = number_after(ramp.first.value, before)?;
     Some(Bends {
         start,
         before,
-        after,
+        after: one_turn_more(reached, count),
     })
 }
 
@@ -317,7 +283,7 @@ pub(crate) fn look_bent<R: RunReader>(
     let (left, rest) = out.split_at_mut(bends.before);
     let (middle, right) = rest.split_at_mut(bends.after - bends.before);
     let ty = reader.look_row(name, bends.start, others, cast, middle)?;
-    look_standing(name, ramp.low.value, others, ty, cast, reader, left)?;
-    look_standing(name, ramp.high.value, others, ty, cast, reader, right)?;
+    fill_words(middle[0], left);
+    fill_words(middle[middle.len() - 1], right);
     Some(ty)
 }

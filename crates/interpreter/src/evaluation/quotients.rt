@@ -11,6 +11,7 @@ ghost use Rattle.interpreter.specs.Evaluation.Words.{word_at};
 use crate::evaluation::kernels::applied_number;
 use crate::evaluation::lanes::Number;
 use crate::evaluation::operations::{Operator, Quotient, Remainder};
+use crate::evaluation::powers::{exponent_of, mask_each, shift_all};
 use crate::evaluation::widths::{
     Signed8, Signed16, Signed32, Unsigned8, Unsigned16, Unsigned32, Width,
 };
@@ -351,7 +352,7 @@ fn divide_in<W: Width>(out: &mut [u32], divisor: u32)
 }
 
 /// Each word divided by one number, wrapped to the type, by a loop of the type's own.
-pub(crate) fn divide_all(ty: Ty, out: &mut [u32], divisor: u32)
+fn divide_any(ty: Ty, out: &mut [u32], divisor: u32)
     ensures { (k : ℕ) → k < length out.new → word_at ty out.new k ≡ apply Div ty (word_at ty out.old k) (pos divisor) }
 {
     match ty {
@@ -361,6 +362,16 @@ pub(crate) fn divide_all(ty: Ty, out: &mut [u32], divisor: u32)
         Ty::I8 => divide_in::<Signed8>(out, divisor),
         Ty::I16 => divide_in::<Signed16>(out, divisor),
         Ty::I32 => divide_in::<Signed32>(out, divisor),
+    }
+}
+
+/// Each word divided by one number, wrapped to the type: by a shift alone where the number is a power of two.
+pub(crate) fn divide_all(ty: Ty, out: &mut [u32], divisor: u32)
+    ensures { (k : ℕ) → k < length out.new → word_at ty out.new k ≡ apply Div ty (word_at ty out.old k) (pos divisor) }
+{
+    match exponent_of(divisor) {
+        Some(exponent) => shift_all(ty, out, exponent),
+        None => divide_any(ty, out, divisor),
     }
 }
 
@@ -376,7 +387,7 @@ fn reduce_each<W: Width>(out: &mut [u32], divisor: u32)
 }
 
 /// The remainder of each word by one number, wrapped to the type, by a loop of the type's own.
-pub(crate) fn reduce_all(ty: Ty, out: &mut [u32], divisor: u32)
+fn reduce_any(ty: Ty, out: &mut [u32], divisor: u32)
     ensures { (k : ℕ) → k < length out.new → word_at ty out.new k ≡ apply Rem ty (word_at ty out.old k) (pos divisor) }
 {
     match ty {
@@ -386,5 +397,15 @@ pub(crate) fn reduce_all(ty: Ty, out: &mut [u32], divisor: u32)
         Ty::I8 => reduce_each::<Signed8>(out, divisor),
         Ty::I16 => reduce_each::<Signed16>(out, divisor),
         Ty::I32 => reduce_each::<Signed32>(out, divisor),
+    }
+}
+
+/// The remainder of each word by one number, wrapped to the type: its lowest bits where the number is a power of two.
+pub(crate) fn reduce_all(ty: Ty, out: &mut [u32], divisor: u32)
+    ensures { (k : ℕ) → k < length out.new → word_at ty out.new k ≡ apply Rem ty (word_at ty out.old k) (pos divisor) }
+{
+    match exponent_of(divisor) {
+        Some(exponent) if exponent <= ty.bits() => mask_each(out, exponent),
+        _ => reduce_any(ty, out, divisor),
     }
 }

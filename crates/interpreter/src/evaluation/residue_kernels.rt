@@ -74,6 +74,15 @@ pub(crate) fn apply_residues_by<O: ResidueOperator>(out: &mut [u32], right: Numb
     }
 }
 
+/// The operator on each word and one word.
+pub(crate) fn apply_word<O: ResidueOperator>(out: &mut [u32], right: u32)
+    ensures { (t : TyFound) (k : ℕ) → k < length out.new → word_at t out.new k ≡ apply O.op t (word_at t out.old k) (wrap t (pos right)) }
+{
+    for turn in 0..out.len() {
+        out[turn] = O::residue(i64::from(out[turn]), i64::from(right));
+    }
+}
+
 /// The operator on one number and each word.
 pub(crate) fn apply_residues_from<O: ResidueOperator>(left: Number, out: &mut [u32])
     ensures { (t : TyFound) (k : ℕ) → k < length out.new → word_at t out.new k ≡ apply O.op t left.value (word_at t out.old k) }
@@ -90,5 +99,61 @@ pub(crate) fn apply_residues_to<O: ResidueOperator>(left: Number, right: &[u32],
 {
     for turn in 0..out.len() {
         out[turn] = O::residue(left.value, i64::from(right[turn]));
+    }
+}
+
+/// The operator on a word and a number less it.
+#[inline(always)]
+fn complemented_word<O: ResidueOperator>(value: Number, word: u32) -> u32
+    ensures { (t : TyFound) → wrap t (pos result) ≡ apply O.op t (wrap t (pos word)) (apply Sub t value.value (wrap t (pos word))) }
+{
+    let rest = Difference::residue(value.value, i64::from(word));
+    O::residue(i64::from(word), i64::from(rest))
+}
+
+/// The operator on each word and a number less it.
+pub(crate) fn apply_complements<O: ResidueOperator>(value: Number, out: &mut [u32])
+    ensures { (t : TyFound) (k : ℕ) → k < length out.new → word_at t out.new k ≡ apply O.op t (word_at t out.old k) (apply Sub t value.value (word_at t out.old k)) }
+{
+    for turn in 0..out.len() {
+        out[turn] = complemented_word::<O>(value, out[turn]);
+    }
+}
+
+/// The product of a word and itself.
+#[inline(always)]
+fn squared_word(word: u32) -> u32
+    ensures { (t : TyFound) → wrap t (pos result) ≡ apply Mul t (wrap t (pos word)) (wrap t (pos word)) }
+{
+    Product::residue(i64::from(word), i64::from(word))
+}
+
+/// The product of each word and itself.
+pub(crate) fn square_each(out: &mut [u32])
+    ensures { (t : TyFound) (k : ℕ) → k < length out.new → word_at t out.new k ≡ apply Mul t (word_at t out.old k) (word_at t out.old k) }
+{
+    for turn in 0..out.len() {
+        out[turn] = squared_word(out[turn]);
+    }
+}
+
+/// The operator on each word of one row and the one of another, put into a register.
+pub(crate) fn apply_word_rows<O: ResidueOperator>(left: &[u32], right: &[u32], out: &mut [u32])
+    requires left { length left.now ≡ length out.old }
+    requires right { length right.now ≡ length out.old }
+    ensures { (t : TyFound) (k : ℕ) → k < length out.new → word_at t out.new k ≡ apply O.op t (word_at t left.now k) (word_at t right.now k) }
+{
+    for turn in 0..out.len() {
+        out[turn] = O::residue(i64::from(left[turn]), i64::from(right[turn]));
+    }
+}
+
+/// The operator on each word of a row and one number, put into a register.
+pub(crate) fn apply_row_by<O: ResidueOperator>(left: &[u32], right: Number, out: &mut [u32])
+    requires { length left.now ≡ length out.old }
+    ensures { (t : TyFound) (k : ℕ) → k < length out.new → word_at t out.new k ≡ apply O.op t (word_at t left.now k) right.value }
+{
+    for turn in 0..out.len() {
+        out[turn] = O::residue(i64::from(left[turn]), right.value);
     }
 }

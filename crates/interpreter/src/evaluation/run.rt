@@ -7,26 +7,36 @@ ghost use Rattle.tree.specs.Meaning.{typed};
 ghost use Rattle.tree.specs.Term.{term_of, test_of, indices, list_terms, Cast};
 ghost use Rattle.tree.specs.declared.value.Value.{Value as ValueFound};
 ghost use Rattle.interpreter.specs.Evaluation.Lanes.{found_as, number_at, FindsMask, FindsRun, IsNarrowFor};
-ghost use Rattle.interpreter.specs.Evaluation.Words.{bits_at, word_at};
+ghost use Rattle.interpreter.specs.Evaluation.Words.{bits_at};
 ghost use Rattle.interpreter.specs.declared.evaluation.lanes.Lanes.TheVariants.{Vector};
 
-use crate::evaluation::kernels::{both_each, either_each, not_each};
+use crate::evaluation::kernels::{both_each, either_each, not_each, widen_all};
 use crate::evaluation::lanes::{Lanes, Number};
+use crate::evaluation::lent_firsts::lent_first;
 use crate::evaluation::lent_operands::{apply_lent, lent_operand};
 use crate::evaluation::looking::look_run;
 use crate::evaluation::repeats::repeat_of;
 use crate::evaluation::run_reader::RunReader;
 use crate::evaluation::usual_calls::usual_call;
-use crate::evaluation::usual_indices::usual_lanes;
+use crate::evaluation::usual_indices::{leaf_lanes, usual_lanes};
 use crate::evaluation::whole::{
-    apply_lanes, apply_repeated, choose_lanes, clamp_lanes, compare_lanes, negate_lanes, spread,
+    apply_lanes, apply_repeated, choose_lanes, clamp_lanes, compare_lanes, negate_lanes, put_lanes,
     type_of, widen, wrap_lanes,
 };
 use numeric::Ty;
 use tree::{Cond, Expr};
 
-/// The values of an expression at the turns of a run, as many as the register has words. Nothing where it is not taken
-/// for all turns together; then it may still have values.
+/// The values of an expression that is a variable or a literal, put into the register: their type.
+fn leaf_run<R: RunReader>(expr: &Expr, reader: &R, out: &mut [u32]) -> Option<Ty>
+    ensures { IfSome result (λ t. (m : Memory ValueFound) → R.agrees reader.now m → FindsRun (length out.new) (Vector t) out.new (λ k. found (R.variables reader.now k) (R.look reader.now m) (term_of expr.now))) }
+{
+    let lanes = leaf_lanes(expr, reader, out)?;
+    let ty = put_lanes(lanes, out)?;
+    Some(ty)
+}
+
+/// The numbers of an expression at as many turns of a run as the register has words, put into it, and their type. Nothing where they
+/// are not taken for all turns together; then there may still be values.
 ///
 /// It takes no memory: the parts of the expression lie in the further registers.
 #[cycle(evaluate_run)]
@@ -35,21 +45,19 @@ pub fn evaluate_run<R: RunReader>(
     reader: &R,
     out: &mut [u32],
     rest: &mut [u32],
-) -> Option<Lanes>
-    ensures narrow { IfSome result (IsNarrowFor (length out.new)) }
-    ensures value { IfSome result (λ x. (m : Memory ValueFound) → R.agrees reader.now m → FindsRun (length out.new) x out.new (λ k. found (R.variables reader.now k) (R.look reader.now m) (term_of expr.now))) }
+) -> Option<Ty>
+    ensures { IfSome result (λ t. (m : Memory ValueFound) → R.agrees reader.now m → FindsRun (length out.new) (Vector t) out.new (λ k. found (R.variables reader.now k) (R.look reader.now m) (term_of expr.now))) }
 {
     match expr {
-        Expr::Literal { ty, number, .. } => Some(Lanes::Broadcast(*ty, Number { value: *number })),
-        Expr::Variable { name, .. } => reader.variable(name.as_str(), out),
+        Expr::Literal { .. } | Expr::Variable { .. } => leaf_run(expr, reader, out),
         Expr::Call { name, at, .. } => {
             let ty = call_run(name.as_str(), at, None, reader, out, rest)?;
-            Some(Lanes::Vector(ty))
+            Some(ty)
         }
         Expr::Negate { value, .. } => {
-            let value = evaluate_run(value, reader, out, rest)?;
-            let lanes = negate_lanes(value, out)?;
-            Some(lanes)
+            let value = operand_run(value, reader, out, rest)?;
+            let ty = negate_lanes(value, out)?;
+            Some(ty)
         }
         Expr::Binary { .. } => binary_run(expr, reader, out, rest),
         Expr::Clamp { .. } => clamp_run(expr, reader, out, rest),
@@ -58,7 +66,7 @@ pub fn evaluate_run<R: RunReader>(
     }
 }
 
-/// The values of an expression at the turns of a run. Those without parts, which are more than half of all, take no further call.
+/// The values of an expression at the turns of a run. Those without parts take no register, where they stay or rise.
 #[cycle(evaluate_run)]
 #[inline(always)]
 fn operand_run<R: RunReader>(
@@ -71,9 +79,11 @@ fn operand_run<R: RunReader>(
     ensures value { IfSome result (λ x. (m : Memory ValueFound) → R.agrees reader.now m → FindsRun (length out.new) x out.new (λ k. found (R.variables reader.now k) (R.look reader.now m) (term_of expr.now))) }
 {
     match expr {
-        Expr::Literal { ty, number, .. } => Some(Lanes::Broadcast(*ty, Number { value: *number })),
-        Expr::Variable { name, .. } => reader.variable(name.as_str(), out),
-        _ => evaluate_run(expr, reader, out, rest),
+        Expr::Literal { .. } | Expr::Variable { .. } => leaf_lanes(expr, reader, out),
+        _ => {
+            let ty = evaluate_run(expr, reader, out, rest)?;
+            Some(Lanes::Vector(ty))
+        }
     }
 }
 
@@ -85,19 +95,18 @@ fn cast_run<R: RunReader>(
     reader: &R,
     out: &mut [u32],
     rest: &mut [u32],
-) -> Option<Lanes>
-    ensures narrow { IfSome result (IsNarrowFor (length out.new)) }
-    ensures value { IfSome result (λ x. (m : Memory ValueFound) → R.agrees reader.now m → FindsRun (length out.new) x out.new (λ k. found (R.variables reader.now k) (R.look reader.now m) (Cast ty (term_of expr.now)))) }
+) -> Option<Ty>
+    ensures { IfSome result (λ t. (m : Memory ValueFound) → R.agrees reader.now m → FindsRun (length out.new) (Vector t) out.new (λ k. found (R.variables reader.now k) (R.look reader.now m) (Cast ty (term_of expr.now)))) }
 {
     match expr {
         Expr::Call { name, at, .. } => {
             let ty = call_run(name.as_str(), at, Some(ty), reader, out, rest)?;
-            Some(Lanes::Vector(ty))
+            Some(ty)
         }
         _ => {
-            let value = evaluate_run(expr, reader, out, rest)?;
-            let lanes = wrap_lanes(ty, value, out)?;
-            Some(lanes)
+            let value = operand_run(expr, reader, out, rest)?;
+            wrap_lanes(ty, value, out)?;
+            Some(ty)
         }
     }
 }
@@ -109,9 +118,8 @@ fn binary_run<R: RunReader>(
     reader: &R,
     out: &mut [u32],
     rest: &mut [u32],
-) -> Option<Lanes>
-    ensures narrow { IfSome result (IsNarrowFor (length out.new)) }
-    ensures value { IfSome result (λ x. (m : Memory ValueFound) → R.agrees reader.now m → FindsRun (length out.new) x out.new (λ k. found (R.variables reader.now k) (R.look reader.now m) (term_of expr.now))) }
+) -> Option<Ty>
+    ensures { IfSome result (λ t. (m : Memory ValueFound) → R.agrees reader.now m → FindsRun (length out.new) (Vector t) out.new (λ k. found (R.variables reader.now k) (R.look reader.now m) (term_of expr.now))) }
 {
     let Expr::Binary {
         op,
@@ -122,34 +130,31 @@ fn binary_run<R: RunReader>(
     else {
         return None;
     };
+    if let Some(ty) = lent_first(*op, left, right, reader, out) {
+        return Some(ty);
+    }
     let first = operand_run(left, reader, out, rest)?;
     if rest.len() < out.len() {
         return None;
     }
     let (other, rest) = rest.split_at_mut(out.len());
     if let Some(repeat) = repeat_of(*op, left, right) {
-        let lanes = apply_repeated(*op, repeat, first, out, other)?;
-        return Some(lanes);
+        let ty = apply_repeated(*op, repeat, first, out, other)?;
+        return Some(ty);
     }
-    if let Some(numbers) = lent_operand(*op, right, type_of(first), reader, other) {
-        let lanes = apply_lent(*op, first, numbers, out)?;
-        return Some(lanes);
+    if let Some(operand) = lent_operand(*op, right, type_of(first), reader, other) {
+        let ty = apply_lent(*op, first, operand, out)?;
+        return Some(ty);
     }
     let second = operand_run(right, reader, other, rest)?;
-    let lanes = apply_lanes(*op, first, second, out, other)?;
-    Some(lanes)
+    let ty = apply_lanes(*op, first, second, out, other)?;
+    Some(ty)
 }
 
 /// The values between two others, of an expression that is such.
 #[cycle(evaluate_run)]
-fn clamp_run<R: RunReader>(
-    expr: &Expr,
-    reader: &R,
-    out: &mut [u32],
-    rest: &mut [u32],
-) -> Option<Lanes>
-    ensures narrow { IfSome result (IsNarrowFor (length out.new)) }
-    ensures value { IfSome result (λ x. (m : Memory ValueFound) → R.agrees reader.now m → FindsRun (length out.new) x out.new (λ k. found (R.variables reader.now k) (R.look reader.now m) (term_of expr.now))) }
+fn clamp_run<R: RunReader>(expr: &Expr, reader: &R, out: &mut [u32], rest: &mut [u32]) -> Option<Ty>
+    ensures { IfSome result (λ t. (m : Memory ValueFound) → R.agrees reader.now m → FindsRun (length out.new) (Vector t) out.new (λ k. found (R.variables reader.now k) (R.look reader.now m) (term_of expr.now))) }
 {
     let Expr::Clamp {
         value,
@@ -171,8 +176,8 @@ fn clamp_run<R: RunReader>(
     }
     let (highs, rest) = rest.split_at_mut(out.len());
     let high = operand_run(high, reader, highs, rest)?;
-    let lanes = clamp_lanes(value, low, high, out, lows, highs)?;
-    Some(lanes)
+    let ty = clamp_lanes(value, low, high, out, lows, highs)?;
+    Some(ty)
 }
 
 /// The chosen values, of an expression that is a choice. All of its condition and both its arms are evaluated.
@@ -182,9 +187,8 @@ fn select_run<R: RunReader>(
     reader: &R,
     out: &mut [u32],
     rest: &mut [u32],
-) -> Option<Lanes>
-    ensures narrow { IfSome result (IsNarrowFor (length out.new)) }
-    ensures value { IfSome result (λ x. (m : Memory ValueFound) → R.agrees reader.now m → FindsRun (length out.new) x out.new (λ k. found (R.variables reader.now k) (R.look reader.now m) (term_of expr.now))) }
+) -> Option<Ty>
+    ensures { IfSome result (λ t. (m : Memory ValueFound) → R.agrees reader.now m → FindsRun (length out.new) (Vector t) out.new (λ k. found (R.variables reader.now k) (R.look reader.now m) (term_of expr.now))) }
 {
     let Expr::Select { cond, yes, no, .. } = expr else {
         return None;
@@ -201,7 +205,7 @@ fn select_run<R: RunReader>(
     let (noes, rest) = rest.split_at_mut(out.len());
     let no = operand_run(no, reader, noes, rest)?;
     let ty = choose_lanes(yes, no, out, yeses, noes)?;
-    Some(Lanes::Vector(ty))
+    Some(ty)
 }
 
 /// What a condition comes to at the turns of a run, put into the register as a mask. All of it is evaluated.
@@ -314,7 +318,7 @@ fn index_run<R: RunReader>(
     register_run(expr, count, reader, registers)
 }
 
-/// The values of an expression at so many turns, in the first register.
+/// The values of an expression at so many turns. They take the first register where they are no usual ones.
 #[cycle(evaluate_run)]
 fn register_run<R: RunReader>(
     expr: &Expr,
@@ -328,10 +332,11 @@ fn register_run<R: RunReader>(
         return None;
     }
     let (out, rest) = registers.split_at_mut(count);
-    match usual_lanes(expr, reader, out) {
-        Some(lanes) => Some(lanes),
-        None => operand_run(expr, reader, out, rest),
+    if let Some(lanes) = usual_lanes(expr, reader, out) {
+        return Some(lanes);
     }
+    let ty = evaluate_run(expr, reader, out, rest)?;
+    Some(Lanes::Vector(ty))
 }
 
 /// The numbers of an expression at as many turns of a run as the list has, and their type. Nothing where they are not taken for all
@@ -350,24 +355,11 @@ pub fn evaluate_numbers<R: RunReader>(
         return None;
     }
     let (words, rest) = registers.split_at_mut(out.len());
-    let lanes = evaluate_run(expr, reader, words, rest)?;
-    widen(lanes, words, out);
-    Some(type_of(lanes))
-}
-
-/// The numbers of an expression at as many turns of a run as the register has words, put into it, and their type. Nothing where they
-/// are not taken for all turns together; then there may still be values.
-///
-/// It takes no memory: the parts of the expression lie in the further registers.
-pub fn evaluate_words<R: RunReader>(
-    expr: &Expr,
-    reader: &R,
-    out: &mut [u32],
-    rest: &mut [u32],
-) -> Option<Ty>
-    ensures { IfSome result (λ t. (m : Memory ValueFound) → R.agrees reader.now m → (k : ℕ) → k < length out.new → found (R.variables reader.now k) (R.look reader.now m) (term_of expr.now) ≡ Some (typed t (word_at t out.new k))) }
-{
-    let lanes = evaluate_run(expr, reader, out, rest)?;
-    spread(lanes, out)?;
-    Some(type_of(lanes))
+    if let Some(lanes) = usual_lanes(expr, reader, words) {
+        widen(lanes, words, out);
+        return Some(type_of(lanes));
+    }
+    let ty = evaluate_run(expr, reader, words, rest)?;
+    widen_all(ty, words, out);
+    Some(ty)
 }

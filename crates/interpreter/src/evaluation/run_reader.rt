@@ -29,6 +29,14 @@ pub trait RunReader {
         ensures narrow { IfSome result (IsNarrowFor (length out.new)) }
         ensures lanes { IfSome result (λ x. (k : ℕ) → k < length out.new → typed I32 (variables self.now k name.now) ≡ lane x out.new k) };
 
+    /// The number that a variable stands for at all of so many turns, where it is seen to stay.
+    fn standing(&self, name: &str, count: usize) -> Option<i64>
+        ensures { IfSome result (λ z. (k : ℕ) → k < count → variables self.now k name.now ≡ z) };
+
+    /// The number that a variable stands for at the first of so many turns, where it is seen to rise by one from turn to turn.
+    fn rising(&self, name: &str, count: usize) -> Option<i64>
+        ensures { IfSome result (λ z. (k : ℕ) → k < count → variables self.now k name.now ≡ z +ℤ pos k) };
+
     /// What a call of a name finds where the first index is each of the numbers in the list, and these are the others.
     fn look_each(&self, name: &str, others: &[i64], out: &mut [Number]) -> Option<Ty>
         ensures { IfSome result (λ t. (m : Memory ValueFound) → agrees self.now m → (k : ℕ) → k < length out.new → look self.now m name.now (number_at out.old k ∷ others.now) ≡ Some (typed t (number_at out.new k))) };

@@ -11,7 +11,7 @@ ghost use Rattle.tree.specs.declared.value.Value.{Value as ValueFound};
 ghost use Rattle.interpreter.specs.Evaluation.Lanes.{clamped_number, found_as, FindsRun};
 ghost use Rattle.interpreter.specs.declared.evaluation.lanes.Lanes.TheVariants.{Vector};
 
-use crate::evaluation::lanes::{ClampedRamp, Lanes, Number};
+use crate::evaluation::lanes::{ClampedRamp, Number};
 use crate::evaluation::looking::look_bent;
 use crate::evaluation::operators::{applied, clamped};
 use crate::evaluation::run_reader::RunReader;
@@ -42,28 +42,6 @@ fn number_of_index(value: Value) -> Option<i64>
     Some(value.number)
 }
 
-/// The number of a variable that stays.
-#[inline(always)]
-fn standing_variable<R: RunReader>(name: &str, reader: &R, out: &mut [u32]) -> Option<i64>
-    ensures { IfSome result (λ z. (k : ℕ) → k < length out.new → R.variables reader.now k name.now ≡ z) }
-{
-    match reader.variable(name, out)? {
-        Lanes::Broadcast(_, number) => Some(number.value),
-        _ => None,
-    }
-}
-
-/// The number at the first turn of a variable that rises by one.
-#[inline(always)]
-fn rising_variable<R: RunReader>(name: &str, reader: &R, out: &mut [u32]) -> Option<i64>
-    ensures { IfSome result (λ z. (k : ℕ) → k < length out.new → R.variables reader.now k name.now ≡ z +ℤ pos k) }
-{
-    match reader.variable(name, out)? {
-        Lanes::Ramp(_, number) => Some(number.value),
-        _ => None,
-    }
-}
-
 /// The number of an expression that is a variable that stays, or a literal.
 #[inline(always)]
 fn standing_part<R: RunReader>(expr: &Expr, reader: &R, out: &mut [u32]) -> Option<i64>
@@ -71,7 +49,7 @@ fn standing_part<R: RunReader>(expr: &Expr, reader: &R, out: &mut [u32]) -> Opti
 {
     match expr {
         Expr::Variable { name, .. } => {
-            let number = standing_variable(name.as_str(), reader, out)?;
+            let number = reader.standing(name.as_str(), out.len())?;
             Some(number)
         }
         _ => {
@@ -88,7 +66,7 @@ fn rising_part<R: RunReader>(expr: &Expr, reader: &R, out: &mut [u32]) -> Option
 {
     match expr {
         Expr::Variable { name, .. } => {
-            let number = rising_variable(name.as_str(), reader, out)?;
+            let number = reader.rising(name.as_str(), out.len())?;
             Some(number)
         }
         _ => None,
@@ -117,7 +95,7 @@ fn moved_standing<R: RunReader>(expr: &Expr, reader: &R, out: &mut [u32]) -> Opt
 
 /// The number at the first turn of such an expression that rises, or of one with a literal added or taken away, if it rises by one too.
 #[inline(always)]
-fn moved_rising<R: RunReader>(expr: &Expr, reader: &R, out: &mut [u32]) -> Option<i64>
+pub(crate) fn moved_rising<R: RunReader>(expr: &Expr, reader: &R, out: &mut [u32]) -> Option<i64>
     ensures { IfSome result (λ z. (m : Memory ValueFound) → R.agrees reader.now m → (k : ℕ) → k < length out.new → found (R.variables reader.now k) (R.look reader.now m) (term_of expr.now) ≡ Some (typed I32 (z +ℤ pos k))) }
 {
     let Expr::Binary {
@@ -137,7 +115,7 @@ fn moved_rising<R: RunReader>(expr: &Expr, reader: &R, out: &mut [u32]) -> Optio
 }
 
 /// The number of such an expression that stays, or of one between two literals.
-fn standing_number<R: RunReader>(expr: &Expr, reader: &R, out: &mut [u32]) -> Option<i64>
+pub(crate) fn standing_number<R: RunReader>(expr: &Expr, reader: &R, out: &mut [u32]) -> Option<i64>
     ensures { IfSome result (λ z. (m : Memory ValueFound) → R.agrees reader.now m → (k : ℕ) → k < length out.new → found (R.variables reader.now k) (R.look reader.now m) (term_of expr.now) ≡ Some (typed I32 z)) }
 {
     let Expr::Clamp {
@@ -157,7 +135,7 @@ fn standing_number<R: RunReader>(expr: &Expr, reader: &R, out: &mut [u32]) -> Op
 
 /// The ramp from a number on between two values.
 #[inline(always)]
-fn ramp_between(first: i64, low: Value, high: Value) -> ClampedRamp
+pub(crate) fn ramp_between(first: i64, low: Value, high: Value) -> ClampedRamp
     ensures { (k : ℕ) → typed I32 (clamped_number result k) ≡ clamped (typed I32 (first +ℤ pos k)) low high }
 {
     ClampedRamp {

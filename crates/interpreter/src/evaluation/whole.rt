@@ -17,11 +17,11 @@ use crate::evaluation::kernels::{
     widen_all,
 };
 use crate::evaluation::lanes::{ClampedRamp, Lanes, Number};
-use crate::evaluation::operations::Difference;
+use crate::evaluation::operations::{Difference, Product, Sum};
 use crate::evaluation::operators::{applied, clamped, negated, wrapped};
 use crate::evaluation::quotients::{divide_all, reduce_all};
 use crate::evaluation::repeats::Repeat;
-use crate::evaluation::residue_kernels::apply_residues_from;
+use crate::evaluation::residue_kernels::{apply_complements, apply_residues_from, square_each};
 use crate::evaluation::words::exact_word;
 use numeric::{Comparison, Op, Ty};
 use tree::Value;
@@ -125,6 +125,14 @@ pub(crate) fn spread(lanes: Lanes, out: &mut [u32]) -> Option<()>
         Lanes::Clamped(ty, ramp) => spread_clamped(ty, ramp, out),
         Lanes::Vector(_) => Some(()),
     }
+}
+
+/// Puts the words of the lanes into the register, if their numbers are of their type, which is the answer.
+pub(crate) fn put_lanes(lanes: Lanes, out: &mut [u32]) -> Option<Ty>
+    ensures { IfSome result (λ t. (k : ℕ) → k < length out.new → typed t (word_at t out.new k) ≡ lane lanes out.old k) }
+{
+    spread(lanes, out)?;
+    Some(type_of(lanes))
 }
 
 /// Puts the numbers of a clamped ramp in.
@@ -294,80 +302,137 @@ fn apply_words(op: Op, left: Lanes, right: Lanes, out: &mut [u32], other: &mut [
     }
 }
 
-/// The operator on lanes, the left ones over this register and the right ones over another.
+/// The operator on lanes, the left ones over this register, into which the values are put, and the right ones over another: their type.
 pub(crate) fn apply_lanes(
     op: Op,
     left: Lanes,
     right: Lanes,
     out: &mut [u32],
     other: &mut [u32],
-) -> Option<Lanes>
+) -> Option<Ty>
     requires { length other.old ≡ length out.old }
-    ensures narrow { IfSome result (IsNarrowFor (length out.new)) }
-    ensures lanes { IfSome result (λ x. (k : ℕ) → k < length out.new → lane x out.new k ≡ applied op (lane left out.old k) (lane right other.old k)) }
+    ensures { IfSome result (λ t. (k : ℕ) → k < length out.new → typed t (word_at t out.new k) ≡ applied op (lane left out.old k) (lane right other.old k)) }
 {
     match apply_whole(op, left, right, out.len()) {
-        Some(lanes) => Some(lanes),
+        Some(lanes) => put_lanes(lanes, out),
         None => {
             apply_words(op, left, right, out, other)?;
-            Some(Lanes::Vector(type_of(left)))
+            Some(type_of(left))
         }
     }
 }
 
-/// A value less lanes over this register, if these are of its type.
-fn subtract_lanes(value: Value, lanes: Lanes, out: &mut [u32]) -> Option<Lanes>
-    ensures narrow { IfSome result (IsNarrowFor (length out.new)) }
-    ensures lanes { IfSome result (λ x. (k : ℕ) → k < length out.new → lane x out.new k ≡ applied Sub value (lane lanes out.old k)) }
+/// A value less lanes over this register, into which the values are put, if these are of its type: their type.
+fn subtract_lanes(value: Value, lanes: Lanes, out: &mut [u32]) -> Option<Ty>
+    ensures { IfSome result (λ t. (k : ℕ) → k < length out.new → typed t (word_at t out.new k) ≡ applied Sub value (lane lanes out.old k)) }
 {
     spread_as(value.ty, lanes, out)?;
     apply_residues_from::<Difference>(number_of(value), out);
-    Some(Lanes::Vector(value.ty))
+    Some(value.ty)
 }
 
-/// The lanes of an operand that repeats another, put over a register of its own. The other's lie over this register.
-fn repeat_lanes(repeat: Repeat, lanes: Lanes, register: &[u32], out: &mut [u32]) -> Option<Lanes>
-    requires length { length register.now ≡ length out.old }
-    requires lanes { IsNarrowFor (length out.old) lanes }
-    ensures narrow { IfSome result (IsNarrowFor (length out.new)) }
-    ensures lanes { IfSome result (λ x. (k : ℕ) → k < length out.new → lane x out.new k ≡ repeated_value repeat (lane lanes register.now k)) }
+/// The values of an operand that repeats another, put into a register of its own: their type. The other's lie over this register.
+fn repeat_lanes(repeat: Repeat, lanes: Lanes, register: &[u32], out: &mut [u32]) -> Option<Ty>
+    requires { length register.now ≡ length out.old }
+    ensures { IfSome result (λ t. (k : ℕ) → k < length out.new → typed t (word_at t out.new k) ≡ repeated_value repeat (lane lanes register.now k)) }
 {
     copy_each(register, out);
     match repeat {
-        Repeat::Same => Some(lanes),
+        Repeat::Same => put_lanes(lanes, out),
         Repeat::Opposite => negate_lanes(lanes, out),
         Repeat::Complement(value) => subtract_lanes(value, lanes, out),
     }
 }
 
-/// The operator on lanes over this register and on those of an operand that repeats them, which take another register.
+/// The operator on lanes over this register, into which the values are put, and on those of an operand that repeats them, which take
+/// another register: their type.
+fn apply_repeat(
+    op: Op,
+    repeat: Repeat,
+    lanes: Lanes,
+    out: &mut [u32],
+    other: &mut [u32],
+) -> Option<Ty>
+    requires { length other.old ≡ length out.old }
+    ensures { IfSome result (λ t. (k : ℕ) → k < length out.new → typed t (word_at t out.new k) ≡ applied op (lane lanes out.old k) (repeated_value repeat (lane lanes out.old k))) }
+{
+    let ty = repeat_lanes(repeat, lanes, out, other)?;
+    apply_lanes(op, lanes, Lanes::Vector(ty), out, other)
+}
+
+/// The operator on lanes over this register, into which the values are put, and on a value less them, which is put over another register
+/// but where sums, differences and products of words of the value's type are made: their type.
+fn apply_complement(
+    op: Op,
+    value: Value,
+    lanes: Lanes,
+    out: &mut [u32],
+    other: &mut [u32],
+) -> Option<Ty>
+    requires { length other.old ≡ length out.old }
+    ensures { IfSome result (λ t. (k : ℕ) → k < length out.new → typed t (word_at t out.new k) ≡ applied op (lane lanes out.old k) (applied Sub value (lane lanes out.old k))) }
+{
+    match (op, lanes) {
+        (Op::Add, Lanes::Vector(ty)) if ty == value.ty => {
+            apply_complements::<Sum>(number_of(value), out);
+            Some(ty)
+        }
+        (Op::Sub, Lanes::Vector(ty)) if ty == value.ty => {
+            apply_complements::<Difference>(number_of(value), out);
+            Some(ty)
+        }
+        (Op::Mul, Lanes::Vector(ty)) if ty == value.ty => {
+            apply_complements::<Product>(number_of(value), out);
+            Some(ty)
+        }
+        _ => apply_repeat(op, Repeat::Complement(value), lanes, out, other),
+    }
+}
+
+/// The operator on lanes over this register, into which the values are put, and on the same again, which are put over another register
+/// but where words are multiplied: their type.
+fn apply_same(op: Op, lanes: Lanes, out: &mut [u32], other: &mut [u32]) -> Option<Ty>
+    requires { length other.old ≡ length out.old }
+    ensures { IfSome result (λ t. (k : ℕ) → k < length out.new → typed t (word_at t out.new k) ≡ applied op (lane lanes out.old k) (lane lanes out.old k)) }
+{
+    match (op, lanes) {
+        (Op::Mul, Lanes::Vector(ty)) => {
+            square_each(out);
+            Some(ty)
+        }
+        _ => apply_repeat(op, Repeat::Same, lanes, out, other),
+    }
+}
+
+/// The operator on lanes over this register, into which the values are put, and on those of an operand that repeats them, for which
+/// another register may be taken: their type.
 pub(crate) fn apply_repeated(
     op: Op,
     repeat: Repeat,
     lanes: Lanes,
     out: &mut [u32],
     other: &mut [u32],
-) -> Option<Lanes>
-    requires length { length other.old ≡ length out.old }
-    requires lanes { IsNarrowFor (length out.old) lanes }
-    ensures narrow { IfSome result (IsNarrowFor (length out.new)) }
-    ensures lanes { IfSome result (λ x. (k : ℕ) → k < length out.new → lane x out.new k ≡ applied op (lane lanes out.old k) (repeated_value repeat (lane lanes out.old k))) }
+) -> Option<Ty>
+    requires { length other.old ≡ length out.old }
+    ensures { IfSome result (λ t. (k : ℕ) → k < length out.new → typed t (word_at t out.new k) ≡ applied op (lane lanes out.old k) (repeated_value repeat (lane lanes out.old k))) }
 {
-    let second = repeat_lanes(repeat, lanes, out, other)?;
-    apply_lanes(op, lanes, second, out, other)
+    match repeat {
+        Repeat::Same => apply_same(op, lanes, out, other),
+        Repeat::Opposite => apply_repeat(op, Repeat::Opposite, lanes, out, other),
+        Repeat::Complement(value) => apply_complement(op, value, lanes, out, other),
+    }
 }
 
-/// The negation of lanes.
-pub(crate) fn negate_lanes(lanes: Lanes, out: &mut [u32]) -> Option<Lanes>
-    ensures narrow { IfSome result (IsNarrowFor (length out.new)) }
-    ensures lanes { IfSome result (λ x. (k : ℕ) → k < length out.new → lane x out.new k ≡ negated (lane lanes out.old k)) }
+/// The negation of lanes over this register, into which the values are put: their type.
+pub(crate) fn negate_lanes(lanes: Lanes, out: &mut [u32]) -> Option<Ty>
+    ensures { IfSome result (λ t. (k : ℕ) → k < length out.new → typed t (word_at t out.new k) ≡ negated (lane lanes out.old k)) }
 {
     match lanes {
-        Lanes::Broadcast(ty, number) => Some(broadcast(negated(value_of(ty, number)))),
+        Lanes::Broadcast(ty, number) => put_lanes(broadcast(negated(value_of(ty, number))), out),
         _ => {
             spread(lanes, out)?;
             negate_all(type_of(lanes), out);
-            Some(Lanes::Vector(type_of(lanes)))
+            Some(type_of(lanes))
         }
     }
 }
@@ -400,17 +465,16 @@ fn recast_words(own: Ty, ty: Ty, out: &mut [u32])
     extend_all(own, out);
 }
 
-/// Lanes wrapped to the type.
-pub(crate) fn wrap_lanes(ty: Ty, lanes: Lanes, out: &mut [u32]) -> Option<Lanes>
-    ensures narrow { IfSome result (IsNarrowFor (length out.new)) }
-    ensures lanes { IfSome result (λ x. (k : ℕ) → k < length out.new → lane x out.new k ≡ typed ty (wrap ty (lane_number lanes out.old k))) }
+/// Lanes over this register, wrapped to the type and put into it.
+pub(crate) fn wrap_lanes(ty: Ty, lanes: Lanes, out: &mut [u32]) -> Option<()>
+    ensures { IfSome result (λ _. (k : ℕ) → k < length out.new → word_at ty out.new k ≡ wrap ty (lane_number lanes out.old k)) }
 {
     match lanes {
-        Lanes::Broadcast(_, number) => Some(broadcast(wrapped(ty, number.value))),
+        Lanes::Broadcast(_, number) => spread_number(ty, number_of(wrapped(ty, number.value)), out),
         _ => {
             spread(lanes, out)?;
             recast_words(type_of(lanes), ty, out);
-            Some(Lanes::Vector(ty))
+            Some(())
         }
     }
 }
@@ -497,7 +561,7 @@ fn clamp_register(
     }
 }
 
-/// Lanes over this register between others.
+/// Lanes over this register, into which the values are put, between others: their type.
 pub(crate) fn clamp_lanes(
     value: Lanes,
     low: Lanes,
@@ -505,19 +569,18 @@ pub(crate) fn clamp_lanes(
     out: &mut [u32],
     lows: &mut [u32],
     highs: &mut [u32],
-) -> Option<Lanes>
+) -> Option<Ty>
     requires lows { length lows.old ≡ length out.old }
     requires highs { length highs.old ≡ length out.old }
     requires value { IsNarrowFor (length out.old) value }
-    ensures narrow { IfSome result (IsNarrowFor (length out.new)) }
-    ensures lanes { IfSome result (λ x. (k : ℕ) → k < length out.new → lane x out.new k ≡ clamped (lane value out.old k) (lane low lows.old k) (lane high highs.old k)) }
+    ensures { IfSome result (λ t. (k : ℕ) → k < length out.new → typed t (word_at t out.new k) ≡ clamped (lane value out.old k) (lane low lows.old k) (lane high highs.old k)) }
 {
     match clamp_whole(value, low, high, out.len()) {
-        Some(lanes) => Some(lanes),
+        Some(lanes) => put_lanes(lanes, out),
         None => {
             spread(value, out)?;
             clamp_register(type_of(value), low, high, out, lows, highs)?;
-            Some(Lanes::Vector(type_of(value)))
+            Some(type_of(value))
         }
     }
 }

@@ -4,6 +4,7 @@ use Rattle.std.proofs.lemmas.Bool.{cases_lt}
 use Rattle.std.proofs.lemmas.List.{length-map, take_all}
 use Rattle.orders.specs.CellRuns.{cells_of}
 use Rattle.orders.specs.declared.cell_runs.CellRun.{CellRun}
+use Rattle.board.specs.CellBits.{bits_in}
 use Rattle.board.specs.Kept.{all_bits}
 use Rattle.board.specs.Layout.{value_at}
 use Rattle.board.specs.Sheets.{HasBits}
@@ -38,7 +39,7 @@ put_row-requires-clause-row g c k lt =
     let all = ap length c.runs-run-items.ensures.cells in
     let here : slice_index cells (c.loop-run.from + k) ≡ (get_or runs c.loop-run.run-index none).first + k =
     (λ i. slice_index (sym c.runs-run-items.ensures.cells i) (c.loop-run.invariant.from i + k)) ∙ stands.1 in
-    bits_at_place V cells c.args.values.now (c.loop-run.from + k) c.requires.values (omega (arith, inside, all, c.loop-run.invariant.from)) ∙ ap (λ (n : ℕ). bits_of (value_at V n)) here
+    bits_at_place V cells (bits_in c.args.values) (c.loop-run.from + k) c.requires.values (omega (arith, inside, all, c.loop-run.invariant.from)) ∙ ap (λ (n : ℕ). bits_of (value_at V n)) here
 
 pub put_row-requires-clause-inside : goal.put_row-requires-clause-inside
 put_row-requires-clause-inside g c some =

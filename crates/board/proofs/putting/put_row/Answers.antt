@@ -1,5 +1,6 @@
 use Rattle.std.proofs.Common.{◌≡◌, ◌+◌, ◌∙◌, ℕ, ℤ, List, arith, ap}
 use Rattle.std.specs.Prelude.{slice_index}
+use Rattle.board.specs.CellBits.{bits_in}
 use Rattle.board.specs.Kept.{all_bits}
 use Rattle.board.specs.Layout.{value_at}
 use Rattle.board.specs.Words.{bits_of}
@@ -12,7 +13,7 @@ put_alike-done-requires-clause-row g c k lt =
     let done : ℕ = c.loop-done.done in
     let from : c.args.from + done + k ≡ c.args.from + (done + k) = omega arith in
     let first : c.args.first + (done + k) ≡ c.args.first + done + k = omega arith in
-    ap (λ (n : ℕ). slice_index c.args.values.now n) from ∙ c.requires.row (done + k) (omega (arith, lt)) ∙ ap (λ (n : ℕ). bits_of (value_at V n)) first
+    ap (λ (n : ℕ). slice_index (bits_in c.args.values) n) from ∙ c.requires.row (done + k) (omega (arith, lt)) ∙ ap (λ (n : ℕ). bits_of (value_at V n)) first
 
 pub loop-done-preserved : goal.loop-done-preserved
 loop-done-preserved g c =

@@ -4,6 +4,7 @@ use Rattle.std.proofs.lemmas.Bool.{cases_lt, OnTrue_at}
 use Rattle.std.proofs.lemmas.List.{length-map, take_all}
 use Rattle.orders.specs.CellRuns.{cells_of}
 use Rattle.orders.specs.declared.cell_runs.CellRun.{CellRun}
+use Rattle.board.specs.CellBits.{bits_in}
 use Rattle.board.specs.Layout.{value_at}
 use Rattle.board.specs.Seen.{HasSample}
 use Rattle.board.specs.Words.{bits_of}
@@ -37,7 +38,7 @@ show_row-requires-clause-row g c k lt =
     let at : ℕ = c.loop-run.given + k in
     let here : slice_index cells at ≡ (get_or runs c.loop-run.run-index none).first + k =
     (λ i. slice_index (sym c.runs-run-items.ensures.cells i) (c.loop-run.invariant.given i + k)) ∙ stands.1 in
-    bits_at_place V cells c.args.values.now at c.requires.values (omega (arith, inside, all, c.loop-run.invariant.given)) ∙ ap (λ (n : ℕ). bits_of (value_at V n)) here
+    bits_at_place V cells (bits_in c.args.values) at c.requires.values (omega (arith, inside, all, c.loop-run.invariant.given)) ∙ ap (λ (n : ℕ). bits_of (value_at V n)) here
 
 pub show_row-requires-clause-inside : goal.show_row-requires-clause-inside
 show_row-requires-clause-inside g c some =

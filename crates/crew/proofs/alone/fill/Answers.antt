@@ -1,4 +1,5 @@
 use Rattle.std.proofs.Common.{ℕ, List, subst, sym}
+use Rattle.board.specs.CellBits.{bits_in}
 use Rattle.board.specs.Sheets.{IsPut}
 use Rattle.board.specs.Layout.{own_of}
 use Rattle.crew.proofs.Staged.{bits_kept}
@@ -11,4 +12,4 @@ compute-requires-clause-needed g c j there =
 
 pub put-requires-clause-kept : goal.put-requires-clause-kept
 put-requires-clause-kept g c =
-    bits_kept g.J.Run.layout g.J.Run.values (own_of g.J.Run.layout c.args.piece) c.given.result.now c.compute.new.desk.scratch.state.given.items c.compute.ensures.values c.given.ensures
+    bits_kept g.J.Run.layout g.J.Run.values (own_of g.J.Run.layout c.args.piece) (bits_in c.given.result) c.compute.new.desk.scratch.state.given.items c.compute.ensures.values c.given.ensures

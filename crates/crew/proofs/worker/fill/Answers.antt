@@ -1,5 +1,6 @@
 use Rattle.std.proofs.Common.{ℕ, length, map, sym, ap, ◌∙◌, subst}
 use Rattle.std.specs.Prelude.{Contains}
+use Rattle.board.specs.CellBits.{bits_in}
 use Rattle.board.specs.Layout.{own_of, pieces_of, value_at}
 use Rattle.board.specs.Seats.{IsTicketOf, Place, seeing}
 use Rattle.board.specs.Views.{completed}
@@ -18,7 +19,7 @@ pub complete-requires-clause-ticket : goal.complete-requires-clause-ticket
 complete-requires-clause-ticket g c = subst (λ (s : Place). IsTicketOf g.J.Run.layout s.view c.args.ticket) (sym c.look_at.ensures.seat) c.requires.ticket
 
 pub complete-requires-clause-bits : goal.complete-requires-clause-bits
-complete-requires-clause-bits g c = bits_kept g.J.Run.layout g.J.Run.values (own_of g.J.Run.layout c.args.ticket.piece) c.given.result.now c.run.new.desk.scratch.state.given.items
+complete-requires-clause-bits g c = bits_kept g.J.Run.layout g.J.Run.values (own_of g.J.Run.layout c.args.ticket.piece) (bits_in c.given.result) c.run.new.desk.scratch.state.given.items
     (c.run.ensures.values ∙ ap (λ (n : ℕ). map (value_at g.J.Run.values) (own_of g.J.Run.layout n)) c.piece-piece.ensures) c.given.ensures
 
 pub returns-clause-seat : goal.returns-clause-seat

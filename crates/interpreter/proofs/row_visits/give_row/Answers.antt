@@ -10,6 +10,7 @@ use Rattle.plan.specs.Semantics.Setting.{buffer_in}
 use Rattle.interpreter.specs.Bindings.{symbols_of}
 use Rattle.interpreter.specs.Buffers.Blocks.{memory_of}
 use Rattle.interpreter.specs.Buffers.Marks.{places_held}
+use Rattle.interpreter.specs.Evaluation.Lending.{lent}
 use Rattle.interpreter.specs.Pieces.{around}
 use Rattle.interpreter.specs.RowVisits.{row_actions}
 use Rattle.interpreter.specs.Steps.{steps}
@@ -29,7 +30,7 @@ returns-clause-run c = λ cell.
     let places = places_held c.in-Some-places_of.held in
     let buffer : ℕ = (around x cell).claim_buffer c.args.claim in
     let taken : ℕ = c.push_held-taken.result in
-    let same = held_length c.in-Some-places_of.held.marks.now c.in-Some-places_of.held.words.now c.in-Some-places_of.held.wides.now in
+    let same = held_length c.in-Some-places_of.held.marks.now (lent c.in-Some-places_of.held.numbers) c.in-Some-places_of.held.wides.now in
     let long = same ∙ c.in-Some-places_of.ensures.count in
     let taken_few : c.push_held-taken.result ≤ length places = subst (λ (n : ℕ). c.push_held-taken.result ≤ n) (sym same) c.push_held-taken.ensures.count in
     let counted = c.in-Some.ensures.0 in

@@ -1,4 +1,4 @@
-use Rattle.std.proofs.Common.{◌≡◌, ◌-◌, ◌<◌, ◌++◌, ◌∷◌, ℕ, ℤ, List, Option, Some, drop, take, length, map, pos, ◌+ℤ◌, sym, ap, ◌∙◌, rules, arith, w64, SFits, slice_index_or}
+use Rattle.std.proofs.Common.{◌≡◌, suc, ◌-◌, ◌<◌, ◌++◌, ◌∷◌, ℕ, ℤ, List, Option, Some, drop, take, length, map, pos, ◌+ℤ◌, sym, subst, ap, ◌∙◌, rules, arith, w64, SFits, slice_index_or}
 use Rattle.std.specs.Prelude.{◌-ℤ◌, ◌*ℤ◌, string_bytes}
 use Rattle.std.proofs.Math.Seq.{drop-append_seam}
 use Rattle.std.proofs.lemmas.Bool.{ltb-false}
@@ -17,7 +17,7 @@ use Rattle.interpreter.specs.Updates.{columns_at, place_number, place_numbers}
 use Rattle.interpreter.specs.declared.evaluation.lanes.Number.{Number}
 use Rattle.interpreter.proofs.FoundRuns.{if_some}
 use Rattle.interpreter.proofs.Spots.{by_first}
-use Rattle.interpreter.proofs.Updating.{coordinates_front, front_same}
+use Rattle.interpreter.proofs.Updating.{coordinates_front, front_same, known_first, numbers_length}
 use Rattle.interpreter.proofs.updates.+coordinates_run.Goals as goal
 
 pub returns-else-registers-count : goal.returns-else-registers-count
@@ -47,15 +47,32 @@ returns-else-registers-count t c =
     let whole : mid ≡ mine ++ back = c.split_at_mut-rest.ensures.value in
     let V : ℕ → List ℕ → ℤ = λ k. bound (map (λ v. string_bytes v.variable) r.coordinates.now) (numbers_at r.first.now r.second.now k) in
     let L : Memory Value → List ℕ → List ℤ → Option Value = λ m. look (around r.piece.now no_cells) m in
-    let q : ℕ = c.saturating_sub-places.result in
+    let p = c.args.places in
+    let q : ℕ = p - 1 in
+    let up : suc q ≡ p = omega (arith, ltb-false) in
+    let z : ℕ → ℤ = λ k. x +ℤ (y -ℤ x) *ℤ pos k in
     if_some c.coordinates_run.result
-    (λ _. (m : Memory Value) → IsBut r.buffer (memory_of r.memory.now) m → (k : ℕ) → k < n → place_numbers (V k) (L m) q later (numbers_at xs1 ys1 k) ≡ Some (columns_at n (length later) rest k)) _
+    (λ _. (m : Memory Value) → IsBut r.buffer (memory_of r.memory.now) m → (k : ℕ) → k < n →
+    place_numbers (V k) (L m) q later (numbers_at xs1 ys1 k) ≡ Some (columns_at n q rest k ++ drop q (numbers_at xs1 ys1 k))) _
     (λ _ h m but k lt.
-    (λ i. place_numbers (V k) (L m) c.args.places (cs_is i) (numbers_at (xs_is i) (ys_is i) k))
-    ∙ coordinates_front (V k) (L m) c.args.places q n k item later (x +ℤ (y -ℤ x) *ℤ pos k) (numbers_at xs1 ys1 k) mid (mine ++ rest) c.saturating_sub-places.ensures
-    (ap (λ (z : ℤ). place_number (V k) (L m) c.args.places (coordinate_of item).index z) (λ i. sym (to_z-of_z w64 x x_fits) i +ℤ (sym (to_z-of_z w64 y y_fits) i -ℤ sym (to_z-of_z w64 x x_fits) i) *ℤ pos k)
+    subst (λ (g : ℕ). place_numbers (V k) (L m) g cs (numbers_at xs ys k) ≡ Some (columns_at n g (mine ++ rest) k ++ drop g (numbers_at xs ys k))) up
+    ((λ i. place_numbers (V k) (L m) (suc q) (cs_is i) (numbers_at (xs_is i) (ys_is i) k))
+    ∙ coordinates_front (V k) (L m) q n k item later (z k) (numbers_at xs1 ys1 k) mid (mine ++ rest)
+    (ap (λ (g : ℕ). place_number (V k) (L m) g (coordinate_of item).index (z k)) up
+    ∙ ap (λ (v : ℤ). place_number (V k) (L m) p (coordinate_of item).index v) (λ i. sym (to_z-of_z w64 x x_fits) i +ℤ (sym (to_z-of_z w64 y y_fits) i -ℤ sym (to_z-of_z w64 x x_fits) i) *ℤ pos k)
     ∙ c.in_ok-coordinate_run-in-len1-up-len1-up-len1-up.ensures m but k lt)
-    (h m but k lt ∙ ap (λ (zs : List Number). Some (columns_at n (length later) zs k)) behind)
+    (h m but k lt ∙ ap (λ (zs : List Number). Some (columns_at n q zs k ++ drop q (numbers_at xs1 ys1 k))) behind)
     (front_same mine rest back k (omega (arith, lt, wide)) ∙ ap (λ (zs : List Number). number_at zs k) (sym whole))
-    ∙ ap (λ (l : List Coordinate). Some (columns_at n (length l) (mine ++ rest) k)) (sym cs_is))
+    ∙ (λ i. Some (columns_at n (suc q) (mine ++ rest) k ++ drop (suc q) (numbers_at (sym xs_is i) (sym ys_is i) k)))))
     c.coordinates_run.ensures
+
+pub returns-then-places-eq0 : goal.returns-then-places-eq0
+returns-then-places-eq0 t c = λ m but k lt.
+    let r = c.args.reader.now in
+    let V : List ℕ → ℤ = bound (map (λ v. string_bytes v.variable) r.coordinates.now) (numbers_at r.first.now r.second.now k) in
+    let cs = c.args.coordinates.now in
+    let known = numbers_at c.args.first.now c.args.second.now k in
+    let none : 0 ≡ c.args.places = omega arith in
+    let there : length known ≡ length cs = numbers_length c.args.first.now c.args.second.now k ∙ omega arith in
+    subst (λ (p : ℕ). place_numbers V (look (around r.piece.now no_cells) m) p cs known ≡ Some (columns_at c.args.count p c.args.registers.now k ++ drop p known)) none
+    (known_first V (look (around r.piece.now no_cells) m) cs known there)

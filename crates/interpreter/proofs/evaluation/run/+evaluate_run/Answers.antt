@@ -1,6 +1,5 @@
-use Rattle.std.proofs.Common.{◌≡◌, ℕ, ◌+◌, ◌*◌, ◌<◌, List, ℤ, length, length-set, take, drop, slice_set, Option, Some, refl, sym, ap, ◌∙◌, rules, arith, w64, SFits}
+use Rattle.std.proofs.Common.{◌≡◌, ℕ, ◌+◌, ◌*◌, ◌<◌, List, ℤ, length, length-set, take, drop, slice_set, Option, Some, refl, sym, ap, ◌∙◌, rules, arith}
 use Rattle.std.proofs.lemmas.List.{take_all}
-use Rattle.std.proofs.lemmas.Int.{to_z-of_z}
 use Rattle.plan.specs.Semantics.Memory.{Memory}
 use Rattle.plan.specs.Semantics.Found.{found, with, all_found}
 use Rattle.tree.specs.declared.expr.Expr.{Expr}
@@ -14,18 +13,18 @@ use Rattle.interpreter.proofs.Indices.{one_more}
 use Rattle.interpreter.proofs.InRegisters.{lanes_more}
 use Rattle.interpreter.proofs.evaluation.run.+evaluate_run.Goals as goal
 
-pub evaluate_run-returns-in_ok-lanes-in-Negate-clause-value : goal.evaluate_run-returns-in_ok-lanes-in-Negate-clause-value
-evaluate_run-returns-in_ok-lanes-in-Negate-clause-value g t c = λ m ok k lt.
+pub evaluate_run-returns-in_ok-ty-in-Negate : goal.evaluate_run-returns-in_ok-ty-in-Negate
+evaluate_run-returns-in_ok-ty-in-Negate g t c = λ m ok k lt.
     let vs = g.R.RunReader.variables c.args.reader.now k in
     let look = g.R.RunReader.look c.args.reader.now m in
     let same : c.deref-in-Negate.result.now ≡ c.in-Negate.value.value = search rules in
     ap (λ (e : Expr). found vs look (term_of e)) c.in-Negate.is
     ∙ ap (λ (e : Expr). found vs look (Minus (term_of e))) (sym same)
-    ∙ found_minus vs look (term_of c.deref-in-Negate.result.now) (lane c.in_ok-value-in-Negate.value c.evaluate_run.new.out k) (c.in_ok-value-in-Negate.ensures.value m ok k (omega arith))
-    ∙ ap (λ (v : Value). Some v) (sym (c.in_ok-lanes-in-Negate.ensures.lanes k lt))
+    ∙ found_minus vs look (term_of c.deref-in-Negate.result.now) (lane c.in_ok-value-in-Negate.value c.operand_run.new.out k) (c.in_ok-value-in-Negate.ensures.value m ok k (omega arith))
+    ∙ ap (λ (v : Value). Some v) (sym (c.in_ok-ty-in-Negate.ensures k lt))
 
-pub cast_run-returns-in_ok-ty-in-Call-clause-value : goal.cast_run-returns-in_ok-ty-in-Call-clause-value
-cast_run-returns-in_ok-ty-in-Call-clause-value g t c = λ m ok k lt.
+pub cast_run-returns-in_ok-ty-in-Call : goal.cast_run-returns-in_ok-ty-in-Call
+cast_run-returns-in_ok-ty-in-Call g t c = λ m ok k lt.
     let vs = g.R.RunReader.variables c.args.reader.now k in
     let look = g.R.RunReader.look c.args.reader.now m in
     let ty = c.args.ty in
@@ -35,39 +34,21 @@ cast_run-returns-in_ok-ty-in-Call-clause-value g t c = λ m ok k lt.
     ∙ (λ i. called (sym c.as_str.ensures.value i) (sym c.deref.ensures.value i))
     ∙ c.in_ok-ty-in-Call.ensures m ok k lt
 
-pub cast_run-returns-in_ok-lanes-in_default-clause-value : goal.cast_run-returns-in_ok-lanes-in_default-clause-value
-cast_run-returns-in_ok-lanes-in_default-clause-value g t c = λ m ok k lt.
+pub cast_run-returns-in_ok-wrap_lanes-in_default : goal.cast_run-returns-in_ok-wrap_lanes-in_default
+cast_run-returns-in_ok-wrap_lanes-in_default g t c = λ m ok k lt.
     let vs = g.R.RunReader.variables c.args.reader.now k in
     let look = g.R.RunReader.look c.args.reader.now m in
-    found_cast vs look c.args.ty (term_of c.args.expr.now) (lane c.in_ok-value-in_default.value c.evaluate_run.new.out k) (c.in_ok-value-in_default.ensures.value m ok k (omega arith))
-    ∙ ap (λ (v : Value). Some v) (sym (c.in_ok-lanes-in_default.ensures.lanes k lt))
+    found_cast vs look c.args.ty (term_of c.args.expr.now) (lane c.in_ok-value-in_default.value c.operand_run.new.out k) (c.in_ok-value-in_default.ensures.value m ok k (omega arith))
+    ∙ ap (λ (z : ℤ). Some (typed c.args.ty z)) (sym (c.in_ok-wrap_lanes-in_default.ensures k lt))
 
-pub evaluate_run-returns-in-Literal-clause-value : goal.evaluate_run-returns-in-Literal-clause-value
-evaluate_run-returns-in-Literal-clause-value g t c = λ m ok k lt.
-    let vs = g.R.RunReader.variables c.args.reader.now k in
-    let look = g.R.RunReader.look c.args.reader.now m in
-    let n : ℤ = c.in-Literal.number in
-    let fits : SFits w64 n = search rules in
-    ap (λ (e : Expr). found vs look (term_of e)) c.in-Literal.is
-    ∙ ap (λ (z : ℤ). Some (typed c.in-Literal.ty z)) (sym (to_z-of_z w64 n fits))
-
-pub operand_run-returns-in-Literal-clause-value : goal.operand_run-returns-in-Literal-clause-value
-operand_run-returns-in-Literal-clause-value g t c = λ m ok k lt.
-    let vs = g.R.RunReader.variables c.args.reader.now k in
-    let look = g.R.RunReader.look c.args.reader.now m in
-    let n : ℤ = c.in-Literal.number in
-    let fits : SFits w64 n = search rules in
-    ap (λ (e : Expr). found vs look (term_of e)) c.in-Literal.is
-    ∙ ap (λ (z : ℤ). Some (typed c.in-Literal.ty z)) (sym (to_z-of_z w64 n fits))
-
-pub evaluate_run-returns-in_ok-ty-in-Call-clause-value : goal.evaluate_run-returns-in_ok-ty-in-Call-clause-value
-evaluate_run-returns-in_ok-ty-in-Call-clause-value g t c = λ m ok k lt.
+pub evaluate_run-returns-in_ok-ty-in-Call : goal.evaluate_run-returns-in_ok-ty-in-Call
+evaluate_run-returns-in_ok-ty-in-Call g t c = λ m ok k lt.
     let vs = g.R.RunReader.variables c.args.reader.now k in
     let look = g.R.RunReader.look c.args.reader.now m in
     let called : (n : List ℕ) (l : List Expr) → Option Value = λ n l. with (all_found vs look (indices (list_terms l))) (λ zs. look n zs) in
     ap (λ (e : Expr). found vs look (term_of e)) c.in-Call.is
     ∙ found_call vs look c.in-Call.name c.in-Call.at c.in-Call.span
-    ∙ (λ i. called (sym c.as_str-in-Call.ensures.value i) (sym c.deref.ensures.value i))
+    ∙ (λ i. called (sym c.as_str.ensures.value i) (sym c.deref.ensures.value i))
     ∙ c.in_ok-ty-in-Call.ensures m ok k lt
 
 pub call_run-loop-i-preserved : goal.call_run-loop-i-preserved

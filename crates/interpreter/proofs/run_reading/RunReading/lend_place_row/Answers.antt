@@ -5,6 +5,7 @@ use Rattle.numeric.specs.Wrap.{wrap}
 use Rattle.tree.specs.declared.value.Value.{Value}
 use Rattle.tree.specs.Meaning.{typed}
 use Rattle.interpreter.specs.Buffers.Marks.{places_held}
+use Rattle.interpreter.specs.Evaluation.Lending.{lent}
 use Rattle.interpreter.specs.Evaluation.Words.{bits_at}
 use Rattle.interpreter.proofs.Casts.{found_taken}
 use Rattle.interpreter.proofs.HeldPlaces.{marked_along}
@@ -20,7 +21,7 @@ returns-clause-value c = λ k lt.
     let start : ℕ = c.in_ok-start.start in
     let held = c.in_ok-held.held in
     let own = c.in_ok-own.own in
-    let bits : ℕ = bits_at held.words.now k in
+    let bits : ℕ = bits_at (lent held.numbers) k in
     let v = typed own (wrap own (pos bits)) in
     let inside : k < length held.marks.now = omega (arith, lt, c.in_ok-held.ensures.marks) in
     let is : first ≡ origin +ℤ pos start = sym (to_z-of_z w64 first c.ranges.first) ∙ c.in_ok-start.ensures ∙ ap (λ (o : ℤ). o +ℤ pos start) (to_z-of_z w64 origin fits) in
@@ -29,5 +30,5 @@ returns-clause-value c = λ k lt.
     (c.in_ok-line.ensures (first +ℤ pos k) v
     (window_along (places_held line.held) (places_held held)
     start c.args.count k ((first +ℤ pos k) -ℤ origin) (Some v) c.in_ok-held.ensures.same place
-    (marked_along held.marks.now held.words.now held.wides.now k own _ (c.in_ok-own.ensures k inside) refl)))
+    (marked_along held.marks.now (lent held.numbers) held.wides.now k own _ (c.in_ok-own.ensures k inside) refl)))
     ∙ ap (λ (x : Value). Some x) (sym (c.in_ok-ty.ensures (pos bits)))

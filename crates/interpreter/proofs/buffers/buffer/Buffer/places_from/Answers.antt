@@ -2,6 +2,7 @@ use Rattle.std.proofs.Common.{◌≡◌, ◌∷◌, ◌+◌, ◌<◌, ℕ, ℤ, 
 use Rattle.std.specs.Prelude.{◌+ℤ◌}
 use Rattle.std.proofs.lemmas.Int.{to_z-of_z}
 use Rattle.plan.specs.Rooms.{Room}
+use Rattle.interpreter.specs.Buffers.PlaceBits.{bits_of}
 use Rattle.interpreter.specs.Buffers.Rooms.{room_of}
 use Rattle.interpreter.specs.Buffers.Raster.{place_count, LiesAt}
 use Rattle.interpreter.specs.Buffers.Blocks.{Block}
@@ -30,5 +31,5 @@ returns-clause-inside c = λ k lt.
     let here = returns-clause-lies c k lt in
     let counted : place + k < place_count (map room_of c.self.inside.rooms.items) = subst (λ (b : Block). place + k < place_count b.rooms) (sym c.self.view_is) here.counted in
     let inside : place + k < length c.self.inside.marks.items = subst (λ (n : ℕ). place + k < n) (sym c.self.invariant.0) counted in
-    let long = held_length c.self.inside.marks.items c.self.inside.words.items c.self.inside.wides.items in
+    let long = held_length c.self.inside.marks.items (bits_of c.self.inside.bits) c.self.inside.wides.items in
     subst (λ (b : Block). place + k < length b.places) c.self.view_is (subst (λ (n : ℕ). place + k < n) (sym long) inside)

@@ -1,0 +1,19 @@
+use Rattle.std.proofs.Common.{ℤ, pos, sym, ap, ◌∙◌, arith, Some}
+use Rattle.numeric.specs.Apply.{apply}
+use Rattle.numeric.specs.Wrap.{wrap}
+use Rattle.tree.specs.Meaning.{typed}
+use Rattle.tree.specs.Term.{term_of}
+use Rattle.interpreter.specs.Evaluation.Lending.{lent_bits}
+use Rattle.interpreter.proofs.FoundRuns.{found_binary}
+use Rattle.interpreter.proofs.evaluation.lent_firsts.lent_by_literal.Goals as goal
+
+pub returns : goal.returns
+returns g c = λ m ok k lt.
+    let vs = g.R.RunReader.variables c.args.reader.now k in
+    let look = g.R.RunReader.look c.args.reader.now m in
+    let x = c.in_ok-first.first in
+    let y = c.in_ok-second.second in
+    found_binary vs look c.args.op (term_of c.args.left.now) (term_of c.args.right.now) (typed x.ty (wrap x.ty (pos (lent_bits x k)))) y
+    (c.in_ok-first.ensures.value m ok k (omega arith)) (c.in_ok-second.ensures vs look)
+    ∙ ap (λ (z : ℤ). Some (typed x.ty (apply c.args.op x.ty (wrap x.ty (pos (lent_bits x k))) z))) (sym c.number_of.ensures)
+    ∙ ap (λ (z : ℤ). Some (typed x.ty z)) (sym (c.in_ok-apply_op_by.ensures x.ty k lt))

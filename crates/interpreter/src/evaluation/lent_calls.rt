@@ -1,0 +1,258 @@
+//! Calls, perhaps cast, whose values lie in a row at the turns of a run: the numbers there are lent. The first index rises by one at each
+//! turn, and may stay at ends; the others are the same at all turns.
+
+ghost use Rattle.std.specs.Prelude.{◌∷◌, ◌≤◌, ◌+◌, IfSome, length};
+ghost use Rattle.plan.specs.Semantics.Found.{found, all_found, with};
+ghost use Rattle.plan.specs.Semantics.Memory.{Memory};
+ghost use Rattle.tree.specs.Term.{term_of, indices, list_terms, Cast};
+ghost use Rattle.tree.specs.declared.value.Value.{Value as ValueFound};
+ghost use Rattle.interpreter.specs.Evaluation.Lanes.{clamped_number, found_as};
+ghost use Rattle.interpreter.specs.Evaluation.Lending.{lent, FindsLent};
+
+use crate::evaluation::lanes::ClampedRamp;
+use crate::evaluation::lent_row::{LentOperand, word_of};
+use crate::evaluation::looking::bends_of;
+use crate::evaluation::run_reader::RunReader;
+use crate::evaluation::usual_calls::{moved_rising, ramp_between, standing_number};
+use crate::evaluation::usual_indices::literal_value;
+use numeric::Ty;
+use tree::Expr;
+
+/// The numbers that are lent for so many turns, where the first index is a clamped ramp's number, which rises in them.
+fn lend_bent<'a, R: RunReader>(
+    name: &str,
+    ramp: ClampedRamp,
+    others: &[i64],
+    cast: Option<Ty>,
+    reader: &'a R,
+    count: usize,
+) -> Option<LentOperand<'a>>
+    ensures room { IfSome result (λ o. o.before + length (lent o.numbers) ≤ count) }
+    ensures value { IfSome result (λ o. (m : Memory ValueFound) → R.agrees reader.now m → FindsLent count o (λ k. found_as cast (R.look reader.now m name.now (clamped_number ramp k ∷ others.now)))) }
+{
+    let bends = bends_of(ramp, count)?;
+    let long = bends.after - bends.before;
+    let row = reader.lend_row(name, bends.start, others, cast, long)?;
+    let low = word_of(row.numbers, 0)?;
+    let high = word_of(row.numbers, long - 1)?;
+    Some(LentOperand {
+        ty: row.ty,
+        before: bends.before,
+        low,
+        numbers: row.numbers,
+        high,
+    })
+}
+
+/// The numbers that are lent for a call whose first index rises, and these are the others.
+fn lend_rising<'a, R: RunReader>(
+    name: &str,
+    first: &Expr,
+    others: &[i64],
+    cast: Option<Ty>,
+    reader: &'a R,
+    register: &mut [u32],
+) -> Option<LentOperand<'a>>
+    ensures room { IfSome result (λ o. o.before + length (lent o.numbers) ≤ length register.new) }
+    ensures value { IfSome result (λ o. (m : Memory ValueFound) → R.agrees reader.now m → FindsLent (length register.new) o (λ k. found_as cast (with (found (R.variables reader.now k) (R.look reader.now m) (term_of first.now)) (λ x. R.look reader.now m name.now (x.number ∷ others.now))))) }
+{
+    let first = moved_rising(first, reader, register)?;
+    let row = reader.lend_row(name, first, others, cast, register.len())?;
+    Some(LentOperand {
+        ty: row.ty,
+        before: 0,
+        low: 0,
+        numbers: row.numbers,
+        high: 0,
+    })
+}
+
+/// The numbers that are lent for a call whose first index rises between two literals, and these are the others.
+fn lend_clamped<'a, R: RunReader>(
+    name: &str,
+    first: &Expr,
+    others: &[i64],
+    cast: Option<Ty>,
+    reader: &'a R,
+    register: &mut [u32],
+) -> Option<LentOperand<'a>>
+    ensures room { IfSome result (λ o. o.before + length (lent o.numbers) ≤ length register.new) }
+    ensures value { IfSome result (λ o. (m : Memory ValueFound) → R.agrees reader.now m → FindsLent (length register.new) o (λ k. found_as cast (with (found (R.variables reader.now k) (R.look reader.now m) (term_of first.now)) (λ x. R.look reader.now m name.now (x.number ∷ others.now))))) }
+{
+    let Expr::Clamp {
+        value,
+        low,
+        high,
+        ..
+    } = first
+    else {
+        return None;
+    };
+    let value = moved_rising(value, reader, register)?;
+    let low = literal_value(low)?;
+    let high = literal_value(high)?;
+    let ramp = ramp_between(value, low, high);
+    let operand = lend_bent(name, ramp, others, cast, reader, register.len())?;
+    Some(operand)
+}
+
+/// The numbers that are lent for a call whose first index rises, between two literals or not, and these are the others.
+fn lend_along<'a, R: RunReader>(
+    name: &str,
+    first: &Expr,
+    others: &[i64],
+    cast: Option<Ty>,
+    reader: &'a R,
+    register: &mut [u32],
+) -> Option<LentOperand<'a>>
+    ensures room { IfSome result (λ o. o.before + length (lent o.numbers) ≤ length register.new) }
+    ensures value { IfSome result (λ o. (m : Memory ValueFound) → R.agrees reader.now m → FindsLent (length register.new) o (λ k. found_as cast (with (found (R.variables reader.now k) (R.look reader.now m) (term_of first.now)) (λ x. R.look reader.now m name.now (x.number ∷ others.now))))) }
+{
+    match first {
+        Expr::Clamp { .. } => lend_clamped(name, first, others, cast, reader, register),
+        _ => lend_rising(name, first, others, cast, reader, register),
+    }
+}
+
+/// The numbers that are lent for such a call of one index, cast to the type, if there is one.
+fn lend_at_one<'a, R: RunReader>(
+    name: &str,
+    at: &[Expr],
+    cast: Option<Ty>,
+    reader: &'a R,
+    register: &mut [u32],
+) -> Option<LentOperand<'a>>
+    ensures room { IfSome result (λ o. o.before + length (lent o.numbers) ≤ length register.new) }
+    ensures value { IfSome result (λ o. (m : Memory ValueFound) → R.agrees reader.now m → FindsLent (length register.new) o (λ k. found_as cast (with (all_found (R.variables reader.now k) (R.look reader.now m) (indices (list_terms at.now))) (λ zs. R.look reader.now m name.now zs)))) }
+{
+    if at.len() != 1 {
+        return None;
+    }
+    let operand = lend_along(name, &at[0], &[], cast, reader, register)?;
+    Some(operand)
+}
+
+/// The numbers that are lent for such a call of two indices, cast to the type, if there is one.
+fn lend_at_two<'a, R: RunReader>(
+    name: &str,
+    at: &[Expr],
+    cast: Option<Ty>,
+    reader: &'a R,
+    register: &mut [u32],
+) -> Option<LentOperand<'a>>
+    ensures room { IfSome result (λ o. o.before + length (lent o.numbers) ≤ length register.new) }
+    ensures value { IfSome result (λ o. (m : Memory ValueFound) → R.agrees reader.now m → FindsLent (length register.new) o (λ k. found_as cast (with (all_found (R.variables reader.now k) (R.look reader.now m) (indices (list_terms at.now))) (λ zs. R.look reader.now m name.now zs)))) }
+{
+    if at.len() != 2 {
+        return None;
+    }
+    let second = standing_number(&at[1], reader, register)?;
+    let operand = lend_along(name, &at[0], &[second], cast, reader, register)?;
+    Some(operand)
+}
+
+/// The numbers that are lent for such a call of three indices, cast to the type, if there is one.
+fn lend_at_three<'a, R: RunReader>(
+    name: &str,
+    at: &[Expr],
+    cast: Option<Ty>,
+    reader: &'a R,
+    register: &mut [u32],
+) -> Option<LentOperand<'a>>
+    ensures room { IfSome result (λ o. o.before + length (lent o.numbers) ≤ length register.new) }
+    ensures value { IfSome result (λ o. (m : Memory ValueFound) → R.agrees reader.now m → FindsLent (length register.new) o (λ k. found_as cast (with (all_found (R.variables reader.now k) (R.look reader.now m) (indices (list_terms at.now))) (λ zs. R.look reader.now m name.now zs)))) }
+{
+    if at.len() != 3 {
+        return None;
+    }
+    let second = standing_number(&at[1], reader, register)?;
+    let third = standing_number(&at[2], reader, register)?;
+    let others = [second, third];
+    let operand = lend_along(name, &at[0], &others, cast, reader, register)?;
+    Some(operand)
+}
+
+/// The numbers that are lent for such a call, cast to the type, if there is one.
+fn lend_call<'a, R: RunReader>(
+    name: &str,
+    at: &[Expr],
+    cast: Option<Ty>,
+    reader: &'a R,
+    register: &mut [u32],
+) -> Option<LentOperand<'a>>
+    ensures room { IfSome result (λ o. o.before + length (lent o.numbers) ≤ length register.new) }
+    ensures value { IfSome result (λ o. (m : Memory ValueFound) → R.agrees reader.now m → FindsLent (length register.new) o (λ k. found_as cast (with (all_found (R.variables reader.now k) (R.look reader.now m) (indices (list_terms at.now))) (λ zs. R.look reader.now m name.now zs)))) }
+{
+    match at.len() {
+        1 => lend_at_one(name, at, cast, reader, register),
+        2 => lend_at_two(name, at, cast, reader, register),
+        3 => lend_at_three(name, at, cast, reader, register),
+        _ => None,
+    }
+}
+
+/// The numbers that are lent for an expression that is such a call.
+fn lend_called<'a, R: RunReader>(
+    expr: &Expr,
+    reader: &'a R,
+    register: &mut [u32],
+) -> Option<LentOperand<'a>>
+    ensures room { IfSome result (λ o. o.before + length (lent o.numbers) ≤ length register.new) }
+    ensures value { IfSome result (λ o. (m : Memory ValueFound) → R.agrees reader.now m → FindsLent (length register.new) o (λ k. found (R.variables reader.now k) (R.look reader.now m) (term_of expr.now))) }
+{
+    let Expr::Call { name, at, .. } = expr else {
+        return None;
+    };
+    let operand = lend_call(name.as_str(), at, None, reader, register)?;
+    Some(operand)
+}
+
+/// The numbers that are lent for such a call, cast to the type.
+fn lend_cast<'a, R: RunReader>(
+    ty: Ty,
+    expr: &Expr,
+    reader: &'a R,
+    register: &mut [u32],
+) -> Option<LentOperand<'a>>
+    ensures room { IfSome result (λ o. o.before + length (lent o.numbers) ≤ length register.new) }
+    ensures value { IfSome result (λ o. (m : Memory ValueFound) → R.agrees reader.now m → FindsLent (length register.new) o (λ k. found (R.variables reader.now k) (R.look reader.now m) (Cast ty (term_of expr.now)))) }
+{
+    let Expr::Call { name, at, .. } = expr else {
+        return None;
+    };
+    let operand = lend_call(name.as_str(), at, Some(ty), reader, register)?;
+    Some(operand)
+}
+
+/// Whether an expression is a call.
+fn is_call(expr: &Expr) -> bool {
+    match expr {
+        Expr::Call { .. } => true,
+        _ => false,
+    }
+}
+
+/// Whether an expression is a call or the cast of one.
+pub(crate) fn may_be_lent(expr: &Expr) -> bool {
+    match expr {
+        Expr::Cast { value, .. } => is_call(value),
+        _ => is_call(expr),
+    }
+}
+
+/// The numbers that are lent for an expression that is such a call or the cast of one, as many as the register has words at most. The
+/// register is for indices that are refused.
+pub(crate) fn lend_value<'a, R: RunReader>(
+    expr: &Expr,
+    reader: &'a R,
+    register: &mut [u32],
+) -> Option<LentOperand<'a>>
+    ensures room { IfSome result (λ o. o.before + length (lent o.numbers) ≤ length register.new) }
+    ensures value { IfSome result (λ o. (m : Memory ValueFound) → R.agrees reader.now m → FindsLent (length register.new) o (λ k. found (R.variables reader.now k) (R.look reader.now m) (term_of expr.now))) }
+{
+    match expr {
+        Expr::Call { .. } => lend_called(expr, reader, register),
+        Expr::Cast { ty, value, .. } => lend_cast(*ty, value, reader, register),
+        _ => None,
+    }
+}
