@@ -1,16 +1,29 @@
 -- The bits of a lent operand at the turns before the numbers that are lent, among them and behind them, and registers in three parts.
-use Rattle.std.proofs.Common.{◌≡◌, ℕ, ◌+◌, ◌-◌, ◌<◌, ◌≤◌, List, ◌++◌, length, get_or, take, drop, min, replicate, Option, Some, inl, inr, sym, ap, subst, ◌∙◌, arith, ℤ, pos}
+use Rattle.std.proofs.Common.{◌≡◌, ℕ, ◌+◌, ◌-◌, ◌<◌, ◌≤◌, List, ◌++◌, length, get_or, take, drop, min, replicate, Option, Some, None, inl, inr, sym, ap, subst, ◌∙◌, arith, ℤ, pos}
 use Rattle.std.specs.Prelude.{◌+ℤ◌}
 use Rattle.std.proofs.lemmas.Bool.{cases_lt}
 use Rattle.std.proofs.lemmas.Grind.{get_or_default_zero}
 use Rattle.std.proofs.lemmas.List.{get_or_append_left, get_or-append-add, get_or_past, get_or-replicate, get_or-take, get_or-drop, length-take, length-drop, length-append, length-replicate}
+use Rattle.numeric.specs.declared.op.Op.TheVariants.{Mul}
+use Rattle.numeric.specs.declared.ty.Ty.{Ty}
+use Rattle.numeric.specs.Apply.{apply, exact}
 use Rattle.numeric.specs.Wrap.{wrap}
 use Rattle.tree.specs.declared.value.Value.{Value}
 use Rattle.tree.specs.Meaning.{typed}
+use Rattle.interpreter.specs.declared.evaluation.lanes.Number.{Number}
 use Rattle.interpreter.specs.declared.evaluation.lent_row.LentOperand.{LentOperand}
-use Rattle.interpreter.specs.Evaluation.Lending.{lent, lent_bits}
+use Rattle.interpreter.specs.Evaluation.Lending.{lent, lent_bits, times_factor}
 use Rattle.interpreter.specs.Evaluation.Words.{bits_at}
+use Rattle.interpreter.proofs.EachWord.{wrap_twice}
 use Rattle.interpreter.proofs.ClampedRamps.{front_word, later_word}
+
+-- what a product wraps to, and a number that a factor makes of one
+pub product_wrapped : (t : Ty) (w z : ℤ) → wrap t (apply Mul t w z) ≡ apply Mul t w z
+product_wrapped t w z = wrap_twice t (exact Mul w z)
+
+pub times_wrapped : (t : Ty) (f : Option Number) (z : ℤ) → wrap t (times_factor t f (wrap t z)) ≡ times_factor t f (wrap t z)
+times_wrapped t None z = wrap_twice t z
+times_wrapped t (Some w) z = product_wrapped t w.value (wrap t z)
 
 pub bits_before : (o : LentOperand) (k : ℕ) → k < o.before → lent_bits o k ≡ o.low
 bits_before o k lt =

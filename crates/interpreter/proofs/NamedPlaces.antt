@@ -14,15 +14,16 @@ abbrev pub IsBefore : List Coordinate → List ℕ → ℕ → Type 0
 IsBefore cs name i = (j : ℕ) → j < i → (c : Coordinate) → c ≡ get_or cs j c → false ≡ same_name (string_bytes c.variable) name
 
 -- and one more has not
-pub before_more : (cs : List Coordinate) (name : List ℕ) (i : ℕ) (c : Coordinate) → i < length cs → IsBefore cs name i → c ≡ get_or cs i c → false ≡ same_name (string_bytes c.variable) name → IsBefore cs name (i + 1)
+pub before_more : (cs : List Coordinate) (name : List ℕ) (i : ℕ) (c : Coordinate) → i < length cs → IsBefore cs name i → c ≡ get_or cs i c →
+    false ≡ same_name (string_bytes c.variable) name → IsBefore cs name (i + 1)
 before_more [] name i c lt h is other j less y at = absurd (omega arith)
 before_more (x ∷ cs) name zero c lt h is other zero less y at = other ∙ ap (λ (z : Coordinate). same_name (string_bytes z.variable) name) (is ∙ sym at)
 before_more (x ∷ cs) name zero c lt h is other (suc j) less y at = absurd (omega arith)
 before_more (x ∷ cs) name (suc i) c lt h is other zero less y at = h 0 (omega arith) y at
 before_more (x ∷ cs) name (suc i) c lt h is other (suc j) less y at = before_more cs name i c (omega arith) (λ m l z e. h (suc m) (omega arith) z e) is other j (omega arith) y at
 
-pub number_named : (cs : List Coordinate) (zs : List ℤ) (name : List ℕ) (i : ℕ) (c : Coordinate) → IsBefore cs name i → i < length cs → c ≡ get_or cs i c → true ≡ same_name (string_bytes c.variable) name →
-    bound (names_of cs) zs name ≡ get_or zs i (pos 0)
+pub number_named : (cs : List Coordinate) (zs : List ℤ) (name : List ℕ) (i : ℕ) (c : Coordinate) → IsBefore cs name i → i < length cs → c ≡ get_or cs i c →
+    true ≡ same_name (string_bytes c.variable) name → bound (names_of cs) zs name ≡ get_or zs i (pos 0)
 number_named [] zs name i c h lt is same = absurd (omega arith)
 number_named (x ∷ cs) [] name i c h lt is same = refl
 number_named (x ∷ cs) (z ∷ zs) name zero c h lt is same =

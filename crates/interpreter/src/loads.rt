@@ -1,7 +1,7 @@
 //! Names, and those by which claims' cells are loaded.
 
 ghost use Rattle.std.specs.Bool.{OnTrue};
-ghost use Rattle.std.specs.Prelude.{◌≡◌, ◌-◌, ◌^◌, ◌==◌, ◌&&◌, not, min, None};
+ghost use Rattle.std.specs.Prelude.{◌≡◌, ◌∷◌, [], ◌-◌, ◌^◌, ◌==◌, ◌&&◌, not, min, None};
 ghost use Rattle.std.specs.List.{list_all};
 ghost use Rattle.meaning.specs.Names.{same_name};
 ghost use Rattle.plan.specs.Claimed.{is_digit, is_numeral, digits_after};
@@ -18,6 +18,17 @@ pub(crate) fn is_named(left: &str, right: &str) -> bool
         ([first], [second]) => first == second,
         ([first, ..], [second, ..]) if first != second => false,
         _ => same_name(left, right),
+    }
+}
+
+/// Whether a name is this byte alone.
+#[inline(always)]
+pub(crate) fn is_named_byte(name: &str, byte: u8) -> bool
+    ensures { result ≡ same_name name.now (byte ∷ []) }
+{
+    match name.as_bytes() {
+        [first] => *first == byte,
+        _ => false,
     }
 }
 
@@ -71,6 +82,7 @@ pub(crate) fn claim_of(name: &str) -> Option<usize>
     ensures { Means name.now result }
 {
     match name.as_bytes() {
+        [b'@', digit] if is_digit(*digit) => Some(usize::from(*digit - b'0')),
         [b'@', digits @ ..] if is_numeral(digits) => Some(number_of(digits)),
         _ => None,
     }

@@ -1,13 +1,13 @@
 //! What a store's expressions are evaluated over.
 
-ghost use Rattle.std.specs.Prelude.{◌≡◌, IfSome, List, ℤ, map, pos, slice_index_or, string_bytes};
+ghost use Rattle.std.specs.Prelude.{◌≡◌, ◌∷◌, [], IfSome, List, ℤ, map, pos, slice_index_or, string_bytes};
 ghost use Rattle.meaning.specs.Image.Raster.{is_within};
 ghost use Rattle.meaning.specs.Names.{bound};
 ghost use Rattle.interpreter.specs.Pieces.{found_in};
 
 use crate::buffers::Buffers;
 use crate::evaluation::Reader;
-use crate::loads::{claim_of, is_named};
+use crate::loads::{claim_of, is_named, is_named_byte};
 use crate::piece::Piece;
 use plan::Coordinate;
 use tree::Value;
@@ -37,8 +37,41 @@ pub(crate) fn number_bound(coordinates: &[Coordinate], numbers: &[i64], name: &s
     }
 }
 
-/// The place of the first coordinate of a variable's name.
+/// The place of one of the first two coordinates, if it is the first of this variable's name of one byte.
+#[inline(always)]
+fn early_place(coordinates: &[Coordinate], byte: u8) -> Option<usize>
+    ensures { IfSome result (λ i. (zs : List ℤ) → bound (map (λ c. string_bytes c.variable) coordinates.now) zs (byte ∷ []) ≡ slice_index_or zs i (pos 0)) }
+{
+    if coordinates.len() < 1 {
+        return None;
+    }
+    if is_named_byte(coordinates[0].variable.as_str(), byte) {
+        return Some(0);
+    }
+    if coordinates.len() < 2 {
+        return None;
+    }
+    if is_named_byte(coordinates[1].variable.as_str(), byte) {
+        return Some(1);
+    }
+    None
+}
+
+/// The place of the first coordinate of a variable's name. Names of one byte, as most variables have, are looked for without a call.
+#[inline(always)]
 pub(crate) fn place_named(coordinates: &[Coordinate], name: &str) -> Option<usize>
+    ensures { IfSome result (λ i. (zs : List ℤ) → bound (map (λ c. string_bytes c.variable) coordinates.now) zs name.now ≡ slice_index_or zs i (pos 0)) }
+{
+    if let [byte] = name.as_bytes() {
+        if let Some(place) = early_place(coordinates, *byte) {
+            return Some(place);
+        }
+    }
+    place_among(coordinates, name)
+}
+
+/// The same, by all coordinates one after another.
+fn place_among(coordinates: &[Coordinate], name: &str) -> Option<usize>
     ensures { IfSome result (λ i. (zs : List ℤ) → bound (map (λ c. string_bytes c.variable) coordinates.now) zs name.now ≡ slice_index_or zs i (pos 0)) }
 {
     for (place, coordinate) in coordinates.iter().enumerate() {

@@ -7,15 +7,16 @@ ghost use Rattle.plan.specs.Semantics.Memory.{Memory};
 ghost use Rattle.tree.specs.Term.{term_of, indices, list_terms, Cast};
 ghost use Rattle.tree.specs.declared.value.Value.{Value as ValueFound};
 ghost use Rattle.interpreter.specs.Evaluation.Lanes.{clamped_number, found_as};
-ghost use Rattle.interpreter.specs.Evaluation.Lending.{lent, FindsLent};
+ghost use Rattle.interpreter.specs.Evaluation.Lending.{lent, FindsLent, FindsTerm};
 
 use crate::evaluation::lanes::ClampedRamp;
-use crate::evaluation::lent_row::{LentOperand, word_of};
+use crate::evaluation::lent_row::{LentOperand, LentTerm, word_of};
 use crate::evaluation::looking::bends_of;
 use crate::evaluation::run_reader::RunReader;
 use crate::evaluation::usual_calls::{moved_rising, ramp_between, standing_number};
 use crate::evaluation::usual_indices::literal_value;
-use numeric::Ty;
+use crate::evaluation::whole::number_of;
+use numeric::{Op, Ty};
 use tree::Expr;
 
 /// The numbers that are lent for so many turns, where the first index is a clamped ramp's number, which rises in them.
@@ -254,5 +255,64 @@ pub(crate) fn lend_value<'a, R: RunReader>(
         Expr::Call { .. } => lend_called(expr, reader, register),
         Expr::Cast { ty, value, .. } => lend_cast(*ty, value, reader, register),
         _ => None,
+    }
+}
+
+/// The numbers that are lent for an expression that is the product of a literal and such a call, or the cast of one.
+fn lend_product<'a, R: RunReader>(
+    expr: &Expr,
+    reader: &'a R,
+    register: &mut [u32],
+) -> Option<LentTerm<'a>>
+    ensures room { IfSome result (λ x. x.operand.before + length (lent x.operand.numbers) ≤ length register.new) }
+    ensures value { IfSome result (λ x. (m : Memory ValueFound) → R.agrees reader.now m → FindsTerm (length register.new) x (λ k. found (R.variables reader.now k) (R.look reader.now m) (term_of expr.now))) }
+{
+    let Expr::Binary {
+        op,
+        left,
+        right,
+        ..
+    } = expr
+    else {
+        return None;
+    };
+    if *op != Op::Mul || !may_be_lent(right) {
+        return None;
+    }
+    let factor = literal_value(left)?;
+    let operand = lend_value(right, reader, register)?;
+    if operand.ty != factor.ty {
+        return None;
+    }
+    Some(LentTerm {
+        factor: Some(number_of(factor)),
+        operand,
+    })
+}
+
+/// The numbers that are lent for an expression that is such a call, the cast of one, or the product of a literal and one of these.
+pub(crate) fn lend_term<'a, R: RunReader>(
+    expr: &Expr,
+    reader: &'a R,
+    register: &mut [u32],
+) -> Option<LentTerm<'a>>
+    ensures room { IfSome result (λ x. x.operand.before + length (lent x.operand.numbers) ≤ length register.new) }
+    ensures value { IfSome result (λ x. (m : Memory ValueFound) → R.agrees reader.now m → FindsTerm (length register.new) x (λ k. found (R.variables reader.now k) (R.look reader.now m) (term_of expr.now))) }
+{
+    if is_product(expr) {
+        return lend_product(expr, reader, register);
+    }
+    let operand = lend_value(expr, reader, register)?;
+    Some(LentTerm {
+        factor: None,
+        operand,
+    })
+}
+
+/// Whether an expression is a product.
+pub(crate) fn is_product(expr: &Expr) -> bool {
+    match expr {
+        Expr::Binary { op: Op::Mul, .. } => true,
+        _ => false,
     }
 }

@@ -3,6 +3,7 @@
 ghost use Rattle.std.specs.Prelude.{◌≡◌, ◌<◌, ◌≤◌, ◌+◌, ◌^◌, ℕ, IfSome, length, pos};
 ghost use Rattle.plan.specs.Semantics.Found.{found};
 ghost use Rattle.plan.specs.Semantics.Memory.{Memory};
+ghost use Rattle.numeric.specs.declared.op.Op.TheVariants.{Mul};
 ghost use Rattle.numeric.specs.declared.ty.Ty.{Ty as TyFound};
 ghost use Rattle.numeric.specs.Apply.{apply};
 ghost use Rattle.numeric.specs.Wrap.{wrap};
@@ -10,15 +11,16 @@ ghost use Rattle.tree.specs.Meaning.{applied, typed};
 ghost use Rattle.tree.specs.Term.{term_of, Binary};
 ghost use Rattle.tree.specs.declared.value.Value.{Value as ValueFound};
 ghost use Rattle.interpreter.specs.Evaluation.Lanes.{FindsRun};
-ghost use Rattle.interpreter.specs.Evaluation.Lending.{lent, lent_bits};
+ghost use Rattle.interpreter.specs.Evaluation.Lending.{lent, lent_bits, lent_number, times_factor};
 ghost use Rattle.interpreter.specs.Evaluation.Words.{word_at};
 ghost use Rattle.interpreter.specs.declared.evaluation.lanes.Lanes.TheVariants.{Vector};
 
-use crate::evaluation::byte_kernels::apply_byte_rows;
-use crate::evaluation::lent_calls::{lend_value, may_be_lent};
-use crate::evaluation::lent_row::{LentNumbers, LentOperand, part_of};
+use crate::evaluation::byte_kernels::{apply_byte_rows, apply_scaled_byte_rows};
+use crate::evaluation::lanes::Number;
+use crate::evaluation::lent_calls::{is_product, lend_term, lend_value, may_be_lent};
+use crate::evaluation::lent_row::{LentNumbers, LentOperand, LentTerm, part_of, word_by_factor};
 use crate::evaluation::operations::{Difference, Product, Sum};
-use crate::evaluation::residue_kernels::{ResidueOperator, apply_word_rows};
+use crate::evaluation::residue_kernels::{ResidueOperator, apply_scaled_rows, apply_word_rows};
 use crate::evaluation::run_reader::RunReader;
 use numeric::{Op, Ty};
 use tree::Expr;
@@ -54,19 +56,66 @@ fn apply_rows<O: ResidueOperator>(
     }
 }
 
-/// The operator on the numbers of two lent operands at the turns from this one on, put into a register, at one after another.
+/// The operator on each lent number of one row and the one of another, as many times as the factor says, put into a register, where both
+/// are kept alike.
+fn apply_rows_scaled<O: ResidueOperator>(
+    left: LentNumbers<'_>,
+    factor: Number,
+    right: LentNumbers<'_>,
+    out: &mut [u32],
+) -> Option<()>
+    requires left { length (lent left) ≡ length out.old }
+    requires right { length (lent right) ≡ length out.old }
+    ensures { IfSome result (λ _. (t : TyFound) (k : ℕ) → k < length out.new → word_at t out.new k ≡ apply O.op t (word_at t (lent left.entry) k) (apply Mul t factor.value (word_at t (lent right.entry) k))) }
+{
+    match left {
+        LentNumbers::Words(left) => match right {
+            LentNumbers::Words(right) => {
+                apply_scaled_rows::<O>(left, factor, right, out);
+                Some(())
+            }
+            LentNumbers::Bytes(_) => None,
+        },
+        LentNumbers::Bytes(left) => match right {
+            LentNumbers::Words(_) => None,
+            LentNumbers::Bytes(right) => {
+                apply_scaled_byte_rows::<O>(left, factor, right, out);
+                Some(())
+            }
+        },
+    }
+}
+
+/// The same where there may be a factor.
+fn apply_rows_by_factor<O: ResidueOperator>(
+    left: LentNumbers<'_>,
+    factor: Option<Number>,
+    right: LentNumbers<'_>,
+    out: &mut [u32],
+) -> Option<()>
+    requires left { length (lent left) ≡ length out.old }
+    requires right { length (lent right) ≡ length out.old }
+    ensures { IfSome result (λ _. (t : TyFound) (k : ℕ) → k < length out.new → word_at t out.new k ≡ apply O.op t (word_at t (lent left.entry) k) (times_factor t factor (word_at t (lent right.entry) k))) }
+{
+    match factor {
+        Some(factor) => apply_rows_scaled::<O>(left, factor, right, out),
+        None => apply_rows::<O>(left, right, out),
+    }
+}
+
+/// The operator on the numbers of a lent operand and of a lent term at the turns from this one on, put into a register, at one after another.
 fn apply_turns<O: ResidueOperator>(
     left: LentOperand<'_>,
-    right: LentOperand<'_>,
+    right: LentTerm<'_>,
     start: usize,
     out: &mut [u32],
 )
     requires { start + length out.old < 2 ^ 64 }
-    ensures { (t : TyFound) (k : ℕ) → k < length out.new → word_at t out.new k ≡ apply O.op t (wrap t (pos (lent_bits left.entry (start + k)))) (wrap t (pos (lent_bits right.entry (start + k)))) }
+    ensures { (t : TyFound) (k : ℕ) → k < length out.new → word_at t out.new k ≡ apply O.op t (wrap t (pos (lent_bits left.entry (start + k)))) (lent_number t right.entry (start + k)) }
 {
     for turn in 0..out.len() {
         let first = left.bits(start + turn);
-        let second = right.bits(start + turn);
+        let second = word_by_factor(right.factor, right.operand.bits(start + turn));
         out[turn] = O::residue(i64::from(first), i64::from(second));
     }
 }
@@ -104,38 +153,37 @@ fn common_turns(left: LentOperand<'_>, right: LentOperand<'_>, count: usize) -> 
     Some(Common { start, end })
 }
 
-/// The operator on the numbers of two lent operands at each turn, put into a register, where both are kept alike.
+/// The operator on the numbers of a lent operand and of a lent term at each turn, put into a register, where both are kept alike.
 fn apply_pair_by<O: ResidueOperator>(
     left: LentOperand<'_>,
-    right: LentOperand<'_>,
+    right: LentTerm<'_>,
     out: &mut [u32],
 ) -> Option<()>
     requires left { left.before + length (lent left.numbers) ≤ length out.old }
-    requires right { right.before + length (lent right.numbers) ≤ length out.old }
-    ensures { IfSome result (λ _. (t : TyFound) (k : ℕ) → k < length out.new → word_at t out.new k ≡ apply O.op t (wrap t (pos (lent_bits left.entry k))) (wrap t (pos (lent_bits right.entry k)))) }
+    requires right { right.operand.before + length (lent right.operand.numbers) ≤ length out.old }
+    ensures { IfSome result (λ _. (t : TyFound) (k : ℕ) → k < length out.new → word_at t out.new k ≡ apply O.op t (wrap t (pos (lent_bits left.entry k))) (lent_number t right.entry k)) }
 {
-    let common = common_turns(left, right, out.len())?;
+    let common = common_turns(left, right.operand, out.len())?;
     let long = common.end - common.start;
     let first = part_of(left.numbers, common.start - left.before, long)?;
-    let second = part_of(right.numbers, common.start - right.before, long)?;
+    let second = part_of(
+        right.operand.numbers,
+        common.start - right.operand.before,
+        long,
+    )?;
     let (low, rest) = out.split_at_mut(common.start);
     let (middle, high) = rest.split_at_mut(long);
-    apply_rows::<O>(first, second, middle)?;
+    apply_rows_by_factor::<O>(first, right.factor, second, middle)?;
     apply_turns::<O>(left, right, 0, low);
     apply_turns::<O>(left, right, common.end, high);
     Some(())
 }
 
 /// The same of an operator that is one of these.
-fn apply_pair_op(
-    op: Op,
-    left: LentOperand<'_>,
-    right: LentOperand<'_>,
-    out: &mut [u32],
-) -> Option<()>
+fn apply_pair_op(op: Op, left: LentOperand<'_>, right: LentTerm<'_>, out: &mut [u32]) -> Option<()>
     requires left { left.before + length (lent left.numbers) ≤ length out.old }
-    requires right { right.before + length (lent right.numbers) ≤ length out.old }
-    ensures { IfSome result (λ _. (t : TyFound) (k : ℕ) → k < length out.new → word_at t out.new k ≡ apply op t (wrap t (pos (lent_bits left.entry k))) (wrap t (pos (lent_bits right.entry k)))) }
+    requires right { right.operand.before + length (lent right.operand.numbers) ≤ length out.old }
+    ensures { IfSome result (λ _. (t : TyFound) (k : ℕ) → k < length out.new → word_at t out.new k ≡ apply op t (wrap t (pos (lent_bits left.entry k))) (lent_number t right.entry k)) }
 {
     match op {
         Op::Add => apply_pair_by::<Sum>(left, right, out),
@@ -145,13 +193,13 @@ fn apply_pair_op(
     }
 }
 
-/// The operator on two lent operands of one type, put into a register.
-fn apply_pair(op: Op, left: LentOperand<'_>, right: LentOperand<'_>, out: &mut [u32]) -> Option<Ty>
+/// The operator on a lent operand and a lent term of one type, put into a register.
+fn apply_pair(op: Op, left: LentOperand<'_>, right: LentTerm<'_>, out: &mut [u32]) -> Option<Ty>
     requires left { left.before + length (lent left.numbers) ≤ length out.old }
-    requires right { right.before + length (lent right.numbers) ≤ length out.old }
-    ensures { IfSome result (λ t. (k : ℕ) → k < length out.new → typed t (word_at t out.new k) ≡ applied op (typed left.entry.ty (wrap left.entry.ty (pos (lent_bits left.entry k)))) (typed right.entry.ty (wrap right.entry.ty (pos (lent_bits right.entry k))))) }
+    requires right { right.operand.before + length (lent right.operand.numbers) ≤ length out.old }
+    ensures { IfSome result (λ t. (k : ℕ) → k < length out.new → typed t (word_at t out.new k) ≡ applied op (typed left.entry.ty (wrap left.entry.ty (pos (lent_bits left.entry k)))) (typed right.entry.operand.ty (lent_number right.entry.operand.ty right.entry k))) }
 {
-    if left.ty != right.ty {
+    if left.ty != right.operand.ty {
         return None;
     }
     apply_pair_op(op, left, right, out)?;
@@ -169,11 +217,11 @@ pub(crate) fn lent_both<R: RunReader>(
 ) -> Option<Ty>
     ensures { IfSome result (λ t. (m : Memory ValueFound) → R.agrees reader.now m → FindsRun (length out.new) (Vector t) out.new (λ k. found (R.variables reader.now k) (R.look reader.now m) (Binary op (term_of left.now) (term_of right.now)))) }
 {
-    if !may_be_lent(right) {
+    if !may_be_lent(right) && !is_product(right) {
         return None;
     }
+    let second = lend_term(right, reader, out)?;
     let first = lend_value(left, reader, out)?;
-    let second = lend_value(right, reader, out)?;
     let ty = apply_pair(op, first, second, out)?;
     Some(ty)
 }

@@ -1,9 +1,13 @@
 //! Rows of numbers that a reader lends.
 
-ghost use Rattle.std.specs.Prelude.{◌≡◌, ◌<◌, ◌≤◌, IfSome, IfNone, length, take, drop};
-ghost use Rattle.interpreter.specs.Evaluation.Lending.{lent, lent_bits};
+ghost use Rattle.std.specs.Prelude.{◌≡◌, ◌<◌, ◌≤◌, IfSome, IfNone, length, pos, take, drop};
+ghost use Rattle.numeric.specs.declared.ty.Ty.{Ty as TyFound};
+ghost use Rattle.numeric.specs.Wrap.{wrap};
+ghost use Rattle.interpreter.specs.Evaluation.Lending.{lent, lent_bits, times_factor};
 ghost use Rattle.interpreter.specs.Evaluation.Words.{bits_at};
 
+use crate::evaluation::lanes::Number;
+use crate::evaluation::residue_kernels::word_times;
 use crate::scanlines::window;
 use numeric::Ty;
 
@@ -32,6 +36,13 @@ pub(crate) struct LentOperand<'a> {
     pub low: u32,
     pub numbers: LentNumbers<'a>,
     pub high: u32,
+}
+
+/// Numbers for the turns of a run: those of an operand that is lent, as many times as a factor says, if there is one.
+#[derive(Clone, Copy, Drop)]
+pub(crate) struct LentTerm<'a> {
+    pub factor: Option<Number>,
+    pub operand: LentOperand<'a>,
 }
 
 impl LentNumbers<'_> {
@@ -80,6 +91,16 @@ impl LentOperand<'_> {
             Some(word) => word,
             None => self.high,
         }
+    }
+}
+
+/// The lowest 32 bits of a word, as many times as the factor says, if there is one.
+pub(crate) fn word_by_factor(factor: Option<Number>, word: u32) -> u32
+    ensures { (t : TyFound) → wrap t (pos result) ≡ times_factor t factor (wrap t (pos word)) }
+{
+    match factor {
+        Some(factor) => word_times(factor, word),
+        None => word,
     }
 }
 

@@ -157,3 +157,39 @@ pub(crate) fn apply_row_by<O: ResidueOperator>(left: &[u32], right: Number, out:
         out[turn] = O::residue(i64::from(left[turn]), right.value);
     }
 }
+
+/// The lowest 32 bits of a word, as many times as the factor says.
+#[inline(always)]
+pub(crate) fn word_times(factor: Number, word: u32) -> u32
+    ensures { (t : TyFound) → wrap t (pos result) ≡ apply Mul t factor.value (wrap t (pos word)) }
+{
+    Product::residue(factor.value, i64::from(word))
+}
+
+/// The operator on each word and the one of another register, as many times as the factor says.
+pub(crate) fn apply_scaled<O: ResidueOperator>(out: &mut [u32], factor: Number, right: &[u32])
+    requires { length right.now ≡ length out.old }
+    ensures { (t : TyFound) (k : ℕ) → k < length out.new → word_at t out.new k ≡ apply O.op t (word_at t out.old k) (apply Mul t factor.value (word_at t right.now k)) }
+{
+    for turn in 0..out.len() {
+        let product = word_times(factor, right[turn]);
+        out[turn] = O::residue(i64::from(out[turn]), i64::from(product));
+    }
+}
+
+/// The operator on each word of one row and the one of another, as many times as the factor says, put into a register.
+pub(crate) fn apply_scaled_rows<O: ResidueOperator>(
+    left: &[u32],
+    factor: Number,
+    right: &[u32],
+    out: &mut [u32],
+)
+    requires left { length left.now ≡ length out.old }
+    requires right { length right.now ≡ length out.old }
+    ensures { (t : TyFound) (k : ℕ) → k < length out.new → word_at t out.new k ≡ apply O.op t (word_at t left.now k) (apply Mul t factor.value (word_at t right.now k)) }
+{
+    for turn in 0..out.len() {
+        let product = word_times(factor, right[turn]);
+        out[turn] = O::residue(i64::from(left[turn]), i64::from(product));
+    }
+}

@@ -10,7 +10,7 @@ ghost use Rattle.interpreter.specs.Evaluation.Lanes.{found_as, number_at, FindsM
 ghost use Rattle.interpreter.specs.Evaluation.Words.{bits_at};
 ghost use Rattle.interpreter.specs.declared.evaluation.lanes.Lanes.TheVariants.{Vector};
 
-use crate::evaluation::kernels::{both_each, either_each, not_each, widen_all};
+use crate::evaluation::kernels::{both_each, either_each, not_each};
 use crate::evaluation::lanes::{Lanes, Number};
 use crate::evaluation::lent_firsts::lent_first;
 use crate::evaluation::lent_operands::{apply_lent, lent_operand};
@@ -18,7 +18,7 @@ use crate::evaluation::looking::look_run;
 use crate::evaluation::repeats::repeat_of;
 use crate::evaluation::run_reader::RunReader;
 use crate::evaluation::usual_calls::usual_call;
-use crate::evaluation::usual_indices::{leaf_lanes, usual_lanes};
+use crate::evaluation::usual_indices::{is_leaf, leaf_lanes, usual_lanes};
 use crate::evaluation::whole::{
     apply_lanes, apply_repeated, choose_lanes, clamp_lanes, compare_lanes, negate_lanes, put_lanes,
     type_of, widen, wrap_lanes,
@@ -66,7 +66,8 @@ pub fn evaluate_run<R: RunReader>(
     }
 }
 
-/// The values of an expression at the turns of a run. Those without parts take no register, where they stay or rise.
+/// The values of an expression at the turns of a run. Variables, literals and operators on two of them take no register, where they
+/// stay or rise.
 #[cycle(evaluate_run)]
 #[inline(always)]
 fn operand_run<R: RunReader>(
@@ -80,11 +81,32 @@ fn operand_run<R: RunReader>(
 {
     match expr {
         Expr::Literal { .. } | Expr::Variable { .. } => leaf_lanes(expr, reader, out),
+        Expr::Binary { left, right, .. } if is_leaf(left) && is_leaf(right) => {
+            lanes_run(expr, reader, out, rest)
+        }
         _ => {
             let ty = evaluate_run(expr, reader, out, rest)?;
             Some(Lanes::Vector(ty))
         }
     }
+}
+
+/// The values of an expression at the turns of a run. Usual ones take no register.
+#[cycle(evaluate_run)]
+fn lanes_run<R: RunReader>(
+    expr: &Expr,
+    reader: &R,
+    out: &mut [u32],
+    rest: &mut [u32],
+) -> Option<Lanes>
+    ensures narrow { IfSome result (IsNarrowFor (length out.new)) }
+    ensures value { IfSome result (λ x. (m : Memory ValueFound) → R.agrees reader.now m → FindsRun (length out.new) x out.new (λ k. found (R.variables reader.now k) (R.look reader.now m) (term_of expr.now))) }
+{
+    if let Some(lanes) = usual_lanes(expr, reader, out) {
+        return Some(lanes);
+    }
+    let ty = evaluate_run(expr, reader, out, rest)?;
+    Some(Lanes::Vector(ty))
 }
 
 /// The values of an expression at the turns of a run, cast to the type. What a call finds is taken as of the type at once.
@@ -318,7 +340,7 @@ fn index_run<R: RunReader>(
     register_run(expr, count, reader, registers)
 }
 
-/// The values of an expression at so many turns. They take the first register where they are no usual ones.
+/// The values of an expression at so many turns, in the first register.
 #[cycle(evaluate_run)]
 fn register_run<R: RunReader>(
     expr: &Expr,
@@ -332,11 +354,8 @@ fn register_run<R: RunReader>(
         return None;
     }
     let (out, rest) = registers.split_at_mut(count);
-    if let Some(lanes) = usual_lanes(expr, reader, out) {
-        return Some(lanes);
-    }
-    let ty = evaluate_run(expr, reader, out, rest)?;
-    Some(Lanes::Vector(ty))
+    let lanes = lanes_run(expr, reader, out, rest)?;
+    Some(lanes)
 }
 
 /// The numbers of an expression at as many turns of a run as the list has, and their type. Nothing where they are not taken for all
@@ -355,11 +374,7 @@ pub fn evaluate_numbers<R: RunReader>(
         return None;
     }
     let (words, rest) = registers.split_at_mut(out.len());
-    if let Some(lanes) = usual_lanes(expr, reader, words) {
-        widen(lanes, words, out);
-        return Some(type_of(lanes));
-    }
-    let ty = evaluate_run(expr, reader, words, rest)?;
-    widen_all(ty, words, out);
-    Some(ty)
+    let lanes = lanes_run(expr, reader, words, rest)?;
+    widen(lanes, words, out);
+    Some(type_of(lanes))
 }

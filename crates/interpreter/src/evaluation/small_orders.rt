@@ -1,15 +1,17 @@
 //! Smaller and larger numbers and comparisons, over registers of types whose numbers are of 32 bits with a sign: they are done in as
 //! many bits, four at once.
 
-ghost use Rattle.std.specs.Prelude.{◌≡◌, ◌<◌, ℕ, pos, length};
+ghost use Rattle.std.specs.Prelude.{◌≡◌, ◌<◌, ℕ, neg_ℤ, pos, length};
 ghost use Rattle.numeric.specs.declared.op.Op.{Op as Operation};
 ghost use Rattle.numeric.specs.declared.op.Op.TheVariants.{Min, Max};
+ghost use Rattle.numeric.specs.declared.ty.Ty.{Ty as TyFound};
 ghost use Rattle.numeric.specs.Apply.{apply, compare, exact};
 ghost use Rattle.numeric.specs.Wrap.{wrap};
 ghost use Rattle.interpreter.specs.Evaluation.Words.{mask_at, says_yes, word_at};
 
 use crate::evaluation::lanes::Number;
-use crate::evaluation::operations::{Comparing, Larger, Smaller};
+use crate::evaluation::operations::{Comparing, Difference, Larger, Smaller};
+use crate::evaluation::residue_kernels::ResidueOperator;
 use crate::evaluation::small_widths::SmallWidth;
 use crate::evaluation::words::low_word;
 
@@ -75,6 +77,32 @@ pub(crate) fn extreme_each<O: Extreme, W: SmallWidth>(out: &mut [u32], right: &[
 {
     for turn in 0..out.len() {
         out[turn] = extreme_of_words::<O, W>(out[turn], right[turn]);
+    }
+}
+
+/// The negation of a word, whatever type it is of.
+#[inline(always)]
+fn opposite_word(word: u32) -> u32
+    ensures { (t : TyFound) → wrap t (pos result) ≡ wrap t (neg_ℤ (wrap t (pos word))) }
+{
+    Difference::residue(0, i64::from(word))
+}
+
+/// A word of such a type or its negation, whichever the operator gives.
+#[inline(always)]
+fn extreme_opposite<O: Extreme, W: SmallWidth>(word: u32) -> u32
+    ensures { wrap W.ty (pos result) ≡ apply O.op W.ty (wrap W.ty (pos word)) (wrap W.ty (neg_ℤ (wrap W.ty (pos word)))) }
+{
+    extreme_of_words::<O, W>(word, opposite_word(word))
+}
+
+/// Each word of such a type or its negation, whichever the operator gives.
+#[inline(always)]
+pub(crate) fn extreme_opposites<O: Extreme, W: SmallWidth>(out: &mut [u32])
+    ensures { (k : ℕ) → k < length out.new → word_at W.ty out.new k ≡ apply O.op W.ty (word_at W.ty out.old k) (wrap W.ty (neg_ℤ (word_at W.ty out.old k))) }
+{
+    for turn in 0..out.len() {
+        out[turn] = extreme_opposite::<O, W>(out[turn]);
     }
 }
 

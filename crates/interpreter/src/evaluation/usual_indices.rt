@@ -27,6 +27,15 @@ pub(crate) fn literal_value(expr: &Expr) -> Option<Value>
     }
 }
 
+/// Whether an expression is a variable or a literal.
+#[inline(always)]
+pub(crate) fn is_leaf(expr: &Expr) -> bool {
+    match expr {
+        Expr::Literal { .. } | Expr::Variable { .. } => true,
+        _ => false,
+    }
+}
+
 /// The values of an expression that is a variable or a literal.
 #[inline(always)]
 pub(crate) fn leaf_lanes<R: RunReader>(expr: &Expr, reader: &R, out: &mut [u32]) -> Option<Lanes>

@@ -17,11 +17,13 @@ use crate::evaluation::kernels::{
     widen_all,
 };
 use crate::evaluation::lanes::{ClampedRamp, Lanes, Number};
-use crate::evaluation::operations::{Difference, Product, Sum};
+use crate::evaluation::operations::{Difference, Larger, Product, Sum};
 use crate::evaluation::operators::{applied, clamped, negated, wrapped};
 use crate::evaluation::quotients::{divide_all, reduce_all};
 use crate::evaluation::repeats::Repeat;
 use crate::evaluation::residue_kernels::{apply_complements, apply_residues_from, square_each};
+use crate::evaluation::small_orders::extreme_opposites;
+use crate::evaluation::widths::{Signed16, Signed32};
 use crate::evaluation::words::exact_word;
 use numeric::{Comparison, Op, Ty};
 use tree::Value;
@@ -404,6 +406,25 @@ fn apply_same(op: Op, lanes: Lanes, out: &mut [u32], other: &mut [u32]) -> Optio
     }
 }
 
+/// The operator on lanes over this register, into which the values are put, and on their negations, which are put over another register
+/// but where words with a sign and their negations are compared: their type.
+fn apply_opposite(op: Op, lanes: Lanes, out: &mut [u32], other: &mut [u32]) -> Option<Ty>
+    requires { length other.old ≡ length out.old }
+    ensures { IfSome result (λ t. (k : ℕ) → k < length out.new → typed t (word_at t out.new k) ≡ applied op (lane lanes out.old k) (negated (lane lanes out.old k))) }
+{
+    match (op, lanes) {
+        (Op::Max, Lanes::Vector(Ty::I16)) => {
+            extreme_opposites::<Larger, Signed16>(out);
+            Some(Ty::I16)
+        }
+        (Op::Max, Lanes::Vector(Ty::I32)) => {
+            extreme_opposites::<Larger, Signed32>(out);
+            Some(Ty::I32)
+        }
+        _ => apply_repeat(op, Repeat::Opposite, lanes, out, other),
+    }
+}
+
 /// The operator on lanes over this register, into which the values are put, and on those of an operand that repeats them, for which
 /// another register may be taken: their type.
 pub(crate) fn apply_repeated(
@@ -418,7 +439,7 @@ pub(crate) fn apply_repeated(
 {
     match repeat {
         Repeat::Same => apply_same(op, lanes, out, other),
-        Repeat::Opposite => apply_repeat(op, Repeat::Opposite, lanes, out, other),
+        Repeat::Opposite => apply_opposite(op, lanes, out, other),
         Repeat::Complement(value) => apply_complement(op, value, lanes, out, other),
     }
 }

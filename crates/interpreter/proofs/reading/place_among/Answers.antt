@@ -1,7 +1,7 @@
 use Rattle.std.proofs.Common.{List, ℕ, ap, ◌∙◌, arith}
 use Rattle.meaning.specs.Names.{same_name}
 use Rattle.interpreter.proofs.NamedPlaces.{before_more, number_named}
-use Rattle.interpreter.proofs.reading.place_named.Goals as goal
+use Rattle.interpreter.proofs.reading.place_among.Goals as goal
 
 pub loop-place-init : goal.loop-place-init
 loop-place-init c = λ j less x at. absurd (omega arith)
