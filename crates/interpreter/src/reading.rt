@@ -71,6 +71,7 @@ pub(crate) fn place_named(coordinates: &[Coordinate], name: &str) -> Option<usiz
 }
 
 /// The same, by all coordinates one after another.
+#[inline(never)]
 fn place_among(coordinates: &[Coordinate], name: &str) -> Option<usize>
     ensures { IfSome result (λ i. (zs : List ℤ) → bound (map (λ c. string_bytes c.variable) coordinates.now) zs name.now ≡ slice_index_or zs i (pos 0)) }
 {
