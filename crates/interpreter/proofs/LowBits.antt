@@ -46,7 +46,8 @@ more_read apart ty t bits new ws wides off same is =
     ∙ sym (λ i. numbers_read (off i) (same i) bits wides ++ map (λ w. wrap t (pos w)) ws)
 
 -- more numbers, and their low bits
-pub more_kept : (t : Ty) (bits new ws : List ℕ) (zs all : List ℤ) → bits ≡ map low_bits zs → new ≡ bits ++ map (λ w. low_bits (wrap t (pos w))) ws → all ≡ zs ++ map (λ w. wrap t (pos w)) ws → new ≡ map low_bits all
+pub more_kept : (t : Ty) (bits new ws : List ℕ) (zs all : List ℤ) → bits ≡ map low_bits zs → new ≡ bits ++ map (λ w. low_bits (wrap t (pos w))) ws → all ≡ zs ++ map (λ w. wrap t (pos w)) ws
+    → new ≡ map low_bits all
 more_kept t bits new ws zs all k is more =
     is
     ∙ (λ i. k i ++ sym (map-map low_bits (λ w. wrap t (pos w)) ws) i)
@@ -59,7 +60,8 @@ byte_read b lt =
     ap low_bits (wrap_of_value U8 (pos b) value) ∙ sym (low_bits_are (pos b) b (omega (arith, lt)) (ap pos (omega (arith, lt))))
 
 -- bytes are the low bits of the numbers of u8 that they are
-pub bytes_given : (narrow : Bool) (bytes : List ℕ) (others all : List ℤ) → narrow ≡ true → (if narrow then map (λ w. wrap U8 (pos w)) bytes else others) ≡ all → map (λ w. low_bits (wrap U8 (pos w))) bytes ≡ bytes →
+pub bytes_given : (narrow : Bool) (bytes : List ℕ) (others all : List ℤ) → narrow ≡ true → (if narrow then map (λ w. wrap U8 (pos w)) bytes else others) ≡ all → map (λ w. low_bits (wrap U8
+    (pos w))) bytes ≡ bytes →
     bytes ≡ map low_bits all
 bytes_given narrow bytes others all on is seen =
     sym seen
