@@ -16,7 +16,7 @@ returns-clause-put g c =
     let bits = c.args.bits_now.now in
     let row : ColourRow x (length bits) c.args.first c.args.count c.args.pixel c.args.colour = record { inside = c.requires.inside; stands = c.requires.place; one = c.requires.one } in
     row_put x g.J.Run.values bits (bits_in c.args.values) c.args.samples.now c.write_each.new.bytes c.args.first c.args.from c.args.count c.args.pixel c.args.colour row c.requires.row
-        c.write_each.ensures
+    c.write_each.ensures
 
 pub returns-clause-more : goal.returns-clause-more
 returns-clause-more g c =
@@ -24,4 +24,4 @@ returns-clause-more g c =
     let bits = c.args.bits_now.now in
     let row : ColourRow x (length bits) c.args.first c.args.count c.args.pixel c.args.colour = record { inside = c.requires.inside; stands = c.requires.place; one = c.requires.one } in
     put_stays x g.J.Run.values bits (bits_in c.args.values) c.args.samples.now c.write_each.new.bytes c.args.first c.args.from c.args.count c.args.pixel c.args.colour row c.requires.row
-        c.write_each.ensures
+    c.write_each.ensures

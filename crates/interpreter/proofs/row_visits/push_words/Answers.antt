@@ -22,7 +22,7 @@ returns-in-Bytes-clause-given g c =
     let held = c.args.held in
     let old = c.args.given.now.items in
     let bytes : c.split_at-in-Bytes.result.0.now ≡ take c.args.count (lent held.numbers) = c.split_at-in-Bytes.ensures.front ∙ ap (λ (x : LentNumbers). take c.args.count (lent x)) (sym
-        c.in-Bytes.is) in
+    c.in-Bytes.is) in
     given_words t held.marks.now (lent held.numbers) held.wides.now old c.args.count c.requires.numbers c.requires.marked
     ∙ ap (λ (ws : List ℕ). Some (old ++ map (λ w. wrap t (pos w)) ws)) (sym bytes)
     ∙ ap (λ (r : Listed). Some r.items) (sym c.append_bytes.ensures)

@@ -25,5 +25,5 @@ returns g c = λ t k lt.
     (λ j less. c.in_ok-apply_rows_by_factor.ensures t j less
     ∙ (λ i. apply op t (wrap t (pos (in_part x (lent c.in_ok-first.first) n m c.in_ok-common.ensures.left c.in_ok-first.ensures.count c.in_ok-first.ensures.numbers j (omega (arith, less, middle)) i)))
     (times_factor t y.factor (wrap t (pos (in_part y.operand (lent c.in_ok-second.second) n m c.in_ok-common.ensures.right c.in_ok-second.ensures.count c.in_ok-second.ensures.numbers j
-        (omega (arith, less, middle)) i))))))
+    (omega (arith, less, middle)) i))))))
     (λ j less. let is : e + j ≡ n + (m + j) = omega (arith, order) in c.apply_turns-2.ensures t j less ∙ ap given is) k lt

@@ -8,5 +8,7 @@ pub returns-then-self : goal.returns-then-self
 returns-then-self c =
     let x = c.self.inside.numbers in
     c.as_slice-bytes.ensures.value
-    ∙ bytes_given x.in_bytes x.bytes.items (numbers_of x.words) c.args.self.now.items c.if-self.true (ap (λ (r : Listed). r.items) c.self.view_is) (search (c.see_bytes.ensures,
-        c.as_slice-bytes.ensures.value))
+    ∙ bytes_given x.in_bytes x.bytes.items (numbers_of x.words) c.args.self.now.items c.if-self.true (ap (λ (r : Listed). r.items) c.self.view_is) (search (
+      c.see_bytes.ensures,
+      c.as_slice-bytes.ensures.value,
+    ))

@@ -22,7 +22,7 @@ returns-clause-set c = λ p lies.
     let marks_is : (with_items c.self.inside.marks c.set_place.new.marks).items ≡ c.set_place.new.marks = with_items_is c.self.inside.marks c.set_place.new.marks (omega arith) in
     let now_held = held_places (with_items c.self.inside.marks c.set_place.new.marks).items (bits_of c.set_place.new.bits) c.set_place.new.wides.items in
     let held_is : held_places c.set_place.new.marks (bits_of c.set_place.new.bits) c.set_place.new.wides.items ≡ now_held = λ i. held_places (sym marks_is i) (bits_of c.set_place.new.bits)
-        c.set_place.new.wides.items in
+    c.set_place.new.wides.items in
     let marks : inside.marks.items ≡ c.as_mut_slice-marks.result.now = sym c.as_mut_slice-marks.ensures.value in
     let same : places ≡ held_places c.as_mut_slice-marks.result.now (bits_of inside.bits) inside.wides.items = λ i. held_places (marks i) (bits_of inside.bits) inside.wides.items in
     let n : ℕ = c.args.place + c.args.behind in
@@ -32,7 +32,7 @@ returns-clause-set c = λ p lies.
     let L : Block → Type 0 = λ b. LiesAt b.rooms p n in
     let is_set : IsSetAt block (made n) p c.args.value =
     set_at_number number c.self.inside.limit c.self.inside.is_used rooms places p n c.args.value (held_length c.self.inside.marks.items (bits_of c.self.inside.bits)
-        c.self.inside.wides.items ∙ c.self.invariant.0)
+    c.self.inside.wides.items ∙ c.self.invariant.0)
     (subst L (sym c.self.view_is) lies) in
     let after : List (Option Value) → Block = λ ps. record { number = number; limit = c.self.inside.limit; used = c.self.inside.is_used; rooms = rooms; places = ps } in
     let at_target : IsSetAt block (made target) p c.args.value = subst (λ (m : ℕ). IsSetAt block (made m) p c.args.value) (sym c.place_behind-target.ensures) is_set in
@@ -49,7 +49,7 @@ returns-clause-is c =
     let marks_is : (with_items c.self.inside.marks c.set_place.new.marks).items ≡ c.set_place.new.marks = with_items_is c.self.inside.marks c.set_place.new.marks (omega arith) in
     let now_held = held_places (with_items c.self.inside.marks c.set_place.new.marks).items (bits_of c.set_place.new.bits) c.set_place.new.wides.items in
     let held_is : held_places c.set_place.new.marks (bits_of c.set_place.new.bits) c.set_place.new.wides.items ≡ now_held = λ i. held_places (sym marks_is i) (bits_of c.set_place.new.bits)
-        c.set_place.new.wides.items in
+    c.set_place.new.wides.items in
     let block : Block = record { number = inside.number; limit = inside.limit; used = inside.is_used; rooms = map room_of inside.rooms.items; places = places } in
     let after : List (Option Value) → Block = λ ps. record { number = inside.number; limit = inside.limit; used = inside.is_used; rooms = map room_of inside.rooms.items; places = ps } in
     let target : ℕ = c.place_behind-target.result in

@@ -28,9 +28,9 @@ returns-in-Some-clause-set c =
     let marks_is : (with_items c.self.inside.marks c.set_place.new.marks).items ≡ c.set_place.new.marks = with_items_is c.self.inside.marks c.set_place.new.marks (omega arith) in
     let now_held = held_places (with_items c.self.inside.marks c.set_place.new.marks).items (bits_of c.set_place.new.bits) c.set_place.new.wides.items in
     let held_is : held_places c.set_place.new.marks (bits_of c.set_place.new.bits) c.set_place.new.wides.items ≡ now_held = λ i. held_places (sym marks_is i) (bits_of c.set_place.new.bits)
-        c.set_place.new.wides.items in
+    c.set_place.new.wides.items in
     let marks : inside.marks.items ≡ c.as_mut_slice-marks.result.now = sym c.as_mut_slice-marks.ensures.value in
     let same : places ≡ held_places c.as_mut_slice-marks.result.now (bits_of inside.bits) inside.wides.items = λ i. held_places (marks i) (bits_of inside.bits) inside.wides.items in
     let set_now : set places c.in-Some.number (Some c.args.value) ≡ now_held = ap (λ (ps : List (Option Value)). set ps c.in-Some.number (Some c.args.value)) same ∙ sym
-        c.set_place.ensures.set ∙ held_is in
+    c.set_place.ensures.set ∙ held_is in
     subst (Q now_held) c.self.view_is (subst (λ (ps : List (Option Value)). Q ps (after places)) set_now is_set)
