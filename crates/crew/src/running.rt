@@ -112,7 +112,7 @@ fn run_on<J: Run + Send + Sync, G: Gate, R: Threads + Wait + Sync>(
 /// bytes for each piece and each cell (twice as much while it opens), 8 more for each piece, and 2 for each sample of the picture.
 /// Both take 4 more for each sample where the region of the output's group is larger than the picture. For each coordinate of a
 /// group's region 16 bytes are kept. Each worker has a desk. On it lies a scratch for all groups, which takes 2 bytes for each place of
-/// the buffers as long as a buffer has held values of `u8` alone, then 5, and room of 8 that is not touched unless a number does not
+/// the buffers as long as a buffer has held values of `u8` alone, then 6, and room of 8 that is not touched unless a number does not
 /// fit its type, of each number as many as the group asks for that asks for most, 24 for each line that binds a symbol, 4 for each
 /// count of the largest grid, 16 for each coordinate of own cells and of the points at which lines fetch and store, 8 for each index of
 /// the calls in stores, and 8 for each own cell of the piece that owns most; and for each fetched cell of the piece that fetches

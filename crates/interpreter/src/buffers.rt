@@ -3,8 +3,8 @@
 //! A buffer has so many places for each coordinate: some from an origin on, or some that are used again and again. All
 //! its places lie in raster order, the first coordinate fastest. A place has a mark, a byte that says whether it is set and of which
 //! type, and the value's number: in a byte as long as the buffer has held values of `u8` alone, so that a place takes 2 bytes, and in a
-//! word of 32 bits from then on, so that it takes 5. A number that does not fit its type, which none is in a plan that was accepted,
-//! stands apart. The memory for words and for such numbers is reserved and not touched before.
+//! word of 32 bits from then on, so that it takes 6: the byte stays. A number that does not fit its type, which none is in a plan that
+//! was accepted, stands apart. The memory for words and for such numbers is reserved and not touched before.
 
 mod buffer;
 mod held;

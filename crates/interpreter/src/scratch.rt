@@ -60,7 +60,7 @@ fn note_group(
 impl Scratch {
     /// Memory for the pieces of these groups of a plan, each of which gives at most so many numbers.
     ///
-    /// It takes 2 bytes a place of the buffers as long as a buffer has held values of `u8` alone, then 5, and room of 8 that is not
+    /// It takes 2 bytes a place of the buffers as long as a buffer has held values of `u8` alone, then 6, and room of 8 that is not
     /// touched as long as all numbers fit their types, of each number as many places as the group that asks for most of them, 24 bytes a
     /// line that binds a symbol, 4 bytes a count of the largest grid, 16 bytes a coordinate of the points that the groups' pieces own and
     /// at which their lines fetch and store, 8 bytes an index of the calls in their stores, and one byte a number that a run gives,

@@ -86,7 +86,7 @@ fn sum(left: usize, right: usize) -> Option<usize>
 }
 
 impl Buffer {
-    /// A buffer that is not in use. It takes memory for its places: 2 bytes each as long as all values are of `u8`, then 5, and room of
+    /// A buffer that is not in use. It takes memory for its places: 2 bytes each as long as all values are of `u8`, then 6, and room of
     /// 8 bytes each that is not touched as long as all numbers fit their types.
     pub(crate) fn new(alloc: Global, limit: Limit) -> Result<Buffer, AllocError>
         ensures number { IfOk result (λ b. b.number ≡ limit.buffer) }

@@ -129,7 +129,7 @@ impl Buffers {
     /// Memory for buffers, of which none is in use: one of each number that a limit names, with the most places that a limit of
     /// the number asks for.
     ///
-    /// It takes 2 bytes a place of a buffer as long as that has held values of `u8` alone, then 5, and room of 8 bytes a place that is
+    /// It takes 2 bytes a place of a buffer as long as that has held values of `u8` alone, then 6, and room of 8 bytes a place that is
     /// not touched as long as all numbers fit their types.
     pub fn new(alloc: Global, limits: &[Limit]) -> Result<Buffers, AllocError>
         ensures nothing { IfOk result (λ buffers. memory_of buffers ≡ nothing) }
