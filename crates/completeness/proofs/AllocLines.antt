@@ -33,15 +33,22 @@ use Rattle.validation.specs.Groups.Lines.{Here, in_loop, inside, before, symbols
 use Rattle.validation.specs.Groups.Inside.{Inside, InsideOne, StandsIn}
 use Rattle.validation.specs.Groups.Wrong.{LacksVariables, OriginNamesOther, NamesUnknown}
 use Rattle.lower.specs.declared.lowering.Lowered.{Lowered}
-use Rattle.lower.specs.Stored.{FormulaText, StoredText, stored_functions, has_large}
-use Rattle.lower.specs.Faults.{are_whole, region_fault}
-use Rattle.lower.specs.Regions.{LaidText, bodies_from}
-use Rattle.lower.specs.Around.{grid_scope}
-use Rattle.lower.specs.Taken.{SiteText, sites_of, taken_places}
-use Rattle.lower.specs.Loading.{Loads}
-use Rattle.lower.specs.Blocks.{lay_over, dimensions_of, own_places}
-use Rattle.lower.specs.Bodies.{first_lines, last_claim, IsStore, AreNests}
-use Rattle.lower.specs.Fetches.{Entry, FetchText, IsFetched, IsPart, AreFetched, fetched_groups, with_fetches}
+use Rattle.sched.specs.Stored.{FormulaText, StoredText}
+use Rattle.lower.specs.Stored.{stored_functions, has_large}
+use Rattle.regions.specs.Faults.{are_whole}
+use Rattle.lower.specs.Faults.{region_fault}
+use Rattle.sched.specs.Regions.{LaidText}
+use Rattle.regions.specs.Regions.{bodies_from}
+use Rattle.sched.specs.Around.{grid_scope}
+use Rattle.sched.specs.Taken.{SiteText}
+use Rattle.regions.specs.Taken.{sites_of, taken_places}
+use Rattle.sched.specs.Loading.{Loads}
+use Rattle.blocks.specs.Blocks.{lay_over, dimensions_of, own_places}
+use Rattle.blocks.specs.Bodies.{first_lines, IsStore, AreNests}
+use Rattle.lower.specs.Bodies.{last_claim}
+use Rattle.sched.specs.Fetches.{Entry}
+use Rattle.blocks.specs.Fetches.{FetchText, with_fetches}
+use Rattle.lower.specs.Fetches.{IsFetched, IsPart, AreFetched, fetched_groups}
 use Rattle.lower.specs.Groups.{HasBody, HasGroups}
 use Rattle.completeness.specs.Laws.{IsAlloc, AllocLinesAreKnown}
 use Rattle.completeness.proofs.Standing.{With, OverGrid, names_own}

@@ -9,8 +9,8 @@ use Rattle.soundness.proofs.Refines.{name_refl, name_true}
 use Rattle.sched.specs.declared.schedule.Split.{Split}
 use Rattle.sched.specs.Numbers.{blocks, numbers_named, last_number}
 use Rattle.sched.proofs.Numbering.{whole_blocks}
-use Rattle.lower.specs.Blocks.{split_end, split_claim_end, end_of, claim_end_of, LayText}
-use Rattle.lower.specs.Blocks.{uncut, joined, part_of}
+use Rattle.blocks.specs.Blocks.{split_end, split_claim_end, end_of, claim_end_of, LayText}
+use Rattle.blocks.specs.Blocks.{uncut, joined, part_of}
 use Rattle.completeness.proofs.Halves.{AreOthers, by_whole}
 use Rattle.completeness.proofs.Lanes.{AreOnce}
 

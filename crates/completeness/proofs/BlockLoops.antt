@@ -9,7 +9,7 @@ use Rattle.soundness.specs.Claims.{In}
 use Rattle.headline.proofs.Lists.{at_left, at_right}
 use Rattle.sched.specs.Subjects.{reductions_of}
 use Rattle.sched.proofs.Leading.{in_right, in_left}
-use Rattle.lower.specs.Around.{range_names, ranges_of}
+use Rattle.sched.specs.Around.{range_names, ranges_of}
 
 -- ---- names
 

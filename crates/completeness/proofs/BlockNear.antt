@@ -20,10 +20,10 @@ use Rattle.sched.specs.declared.nest.Turning.{Turning}
 use Rattle.sched.specs.Standing.{form_named}
 use Rattle.sched.specs.Skeleton.{BodyText, NestText, variables_at, ranges_at, is_missing}
 use Rattle.sched.proofs.Standings.{found_all}
-use Rattle.lower.specs.Called.{called}
-use Rattle.lower.specs.Stored.{FormulaText, StoredText, calls_in, left_at}
-use Rattle.lower.specs.Around.{AroundText, exactly, form_span, bind_steps, interval_in, left_around, coordinate_span, coordinates_behind, around}
-use Rattle.lower.proofs.Laying.{bound, same}
+use Rattle.sched.specs.Called.{called}
+use Rattle.sched.specs.Stored.{FormulaText, StoredText, calls_in, left_at}
+use Rattle.sched.specs.Around.{AroundText, exactly, form_span, bind_steps, interval_in, left_around, coordinate_span, coordinates_behind, around}
+use Rattle.blocks.proofs.Laying.{bound, same}
 use Rattle.completeness.specs.Simple.{is_simple, are_simple, is_simple_left, has_simple_indices}
 use Rattle.completeness.proofs.MoreNumbers.{IsFewSpan}
 use Rattle.completeness.proofs.LeftHeld.{AreCallsFew}

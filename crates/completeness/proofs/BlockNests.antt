@@ -2,7 +2,7 @@
 use Rattle.std.proofs.Common.{◌≡◌, ℕ, zero, suc, ◌+◌, List, [], ◌∷◌, ◌++◌, length, take, drop}
 use Rattle.std.proofs.Common.{Option, Some, None, refl, ap, arith}
 use Rattle.std.specs.Prelude.{IsSomeAnd}
-use Rattle.lower.specs.Stored.{FormulaText}
+use Rattle.sched.specs.Stored.{FormulaText}
 
 pub stored_there : {P : FormulaText → Type 0} (o : Option FormulaText) → IsSomeAnd o P → (x : FormulaText) × (o ≡ Some x) × P x
 stored_there None h = absurd h

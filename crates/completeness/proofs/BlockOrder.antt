@@ -24,9 +24,11 @@ use Rattle.sched.specs.Numbers.{numbers_named, loop_numbers, parallel_loops}
 use Rattle.sched.specs.Placing.{is_parallel, is_vectorized, has_loop}
 use Rattle.sched.specs.Standing.{has_rest}
 use Rattle.sched.specs.Skeleton.{BodyText, SkeletonText, loop_turning, is_missing, is_same, is_in_nest, nest_loops, nest_turns}
-use Rattle.lower.specs.Around.{ranges_of}
-use Rattle.lower.specs.Stored.{FormulaText, StoredText, flags, stored_functions}
-use Rattle.lower.specs.Regions.{turnings, body_by, bodies_from}
+use Rattle.sched.specs.Around.{ranges_of}
+use Rattle.sched.specs.Stored.{FormulaText, StoredText}
+use Rattle.blocks.specs.Stored.{flags}
+use Rattle.lower.specs.Stored.{stored_functions}
+use Rattle.regions.specs.Regions.{turnings, body_by, bodies_from}
 use Rattle.lower.specs.Owning.{IsLaidBy}
 use Rattle.lower.proofs.Owners as owners
 use Rattle.completeness.specs.Blocked.{is_tailed, stands_inside, is_entered, makes_line}

@@ -18,7 +18,7 @@ use Rattle.sched.specs.Placing.{is_parallel, is_vectorized}
 use Rattle.sched.specs.Skeleton.{BodyText, loop_turning, range_turning, is_missing, is_same, is_in_nest, nest_turns, nest_loops, kept_from}
 use Rattle.sched.proofs.Leading.{in_left, in_right}
 use Rattle.sched.proofs.Visiting.{in_reverse}
-use Rattle.lower.specs.Around.{range_names, ranges_of}
+use Rattle.sched.specs.Around.{range_names, ranges_of}
 use Rattle.lower.proofs.Directed.{IsEnd, BothBy}
 use Rattle.completeness.proofs.Lanes.{AreOnce}
 use Rattle.completeness.proofs.PlainTurns.{one_if, hits, hits_append, hits_reverse, itself, turn_name}

@@ -35,16 +35,20 @@ use Rattle.sched.specs.Skeleton.{SkeletonText}
 use Rattle.tails.specs.Steps.{spine_of}
 use Rattle.tails.specs.Nests.{makes_by}
 use Rattle.lower.specs.declared.lowering.Lowered.{Lowered}
-use Rattle.lower.specs.Stored.{FormulaText, StoredText, stored_functions, has_large}
-use Rattle.lower.specs.Faults.{are_whole, calls_of_large, region_fault, no_totals}
-use Rattle.lower.specs.Regions.{LaidText, laid_functions}
-use Rattle.lower.specs.Around.{head_scope}
-use Rattle.lower.specs.Bounded.{whole, is_bounded}
+use Rattle.sched.specs.Stored.{FormulaText, StoredText}
+use Rattle.lower.specs.Stored.{stored_functions, has_large}
+use Rattle.regions.specs.Faults.{are_whole}
+use Rattle.lower.specs.Faults.{calls_of_large, region_fault, no_totals}
+use Rattle.sched.specs.Regions.{LaidText}
+use Rattle.regions.specs.Regions.{laid_functions}
+use Rattle.sched.specs.Around.{head_scope}
+use Rattle.sched.specs.Bounded.{whole}
+use Rattle.blocks.specs.Bounded.{is_bounded}
 use Rattle.lower.specs.Owning.{IsLaidBy}
-use Rattle.lower.specs.Blocks.{dimensions_of, own_places, dimension_of, lay_over}
-use Rattle.lower.specs.Fetches.{Entry}
+use Rattle.blocks.specs.Blocks.{dimensions_of, own_places, dimension_of, lay_over}
+use Rattle.sched.specs.Fetches.{Entry}
 use Rattle.lower.specs.Groups.{HasBody, HasGroups, AreGroupsMade}
-use Rattle.lower.proofs.Laying.{same}
+use Rattle.blocks.proofs.Laying.{same}
 use Rattle.completeness.specs.Laws.{NamesNoLoad, AreLinesTold, IsStore as IsStoreLine, IsFetch, AreSplitOnce}
 use Rattle.completeness.specs.Owed.{EachLine, BindBelow, AreGridsFew, AreSymbolsFew, IsNameTest, EachClaim, TakePlain, AreClaimsNear}
 use Rattle.completeness.specs.Stores.{AreHeld, GroupShown}

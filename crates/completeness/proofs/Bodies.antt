@@ -8,10 +8,12 @@ use Rattle.plan.specs.declared.certificate.cert.Need.{Need}
 use Rattle.meaning.specs.Algorithm.{Algorithm}
 use Rattle.soundness.specs.Claims.{In}
 use Rattle.soundness.proofs.Refines.{and_parts}
-use Rattle.lower.specs.Stored.{FormulaText, StoredText}
-use Rattle.lower.specs.Regions.{LaidText}
-use Rattle.lower.specs.Faults.{is_whole, is_homeless, are_whole}
-use Rattle.lower.specs.Fetches.{Entry, FetchText, is_fetched, fetched_groups, fetched_if, Calls, IsPart, IsFetched, AreFetched}
+use Rattle.sched.specs.Stored.{FormulaText, StoredText}
+use Rattle.sched.specs.Regions.{LaidText}
+use Rattle.regions.specs.Faults.{is_whole, is_homeless, are_whole}
+use Rattle.sched.specs.Fetches.{Entry}
+use Rattle.blocks.specs.Fetches.{FetchText}
+use Rattle.lower.specs.Fetches.{is_fetched, fetched_groups, fetched_if, Calls, IsPart, IsFetched, AreFetched}
 use Rattle.lower.specs.Groups.{HasBody, line_behind, HaveBodies, rooted, rooted_if}
 
 some_same : {A : Type 0} (x y : A) → Some x ≡ Some y → x ≡ y

@@ -22,13 +22,13 @@ use Rattle.sched.specs.Numbers.{blocks, numbers_named, loop_numbers, parallel_lo
 use Rattle.sched.specs.Skeleton.{SkeletonText}
 use Rattle.sched.specs.Standing.{◌>>=◌}
 use Rattle.shares.specs.Boxes.{grid_sides, is_in_side, is_in_box}
-use Rattle.lower.specs.Stored.{StoredText}
-use Rattle.lower.specs.Blocks.{factor_of}
-use Rattle.lower.specs.Needs.{block_at, add_blocks, blocks_over, split_length, length_of, first_count, other_counts, or_all_turns, length_at, low_at, turns_over, turns_found}
-use Rattle.lower.specs.Needs.{turns_needed, loops_needed, or_one_piece, pieces_needed}
+use Rattle.sched.specs.Stored.{StoredText}
+use Rattle.sched.specs.Blocks.{factor_of}
+use Rattle.regions.specs.Needs.{block_at, add_blocks, blocks_over, split_length, length_of, first_count, other_counts, or_all_turns, length_at, low_at, turns_over, turns_found}
+use Rattle.regions.specs.Needs.{turns_needed, loops_needed, or_one_piece, pieces_needed}
 use Rattle.lower.specs.Owning.{IsExtent, IsLaidBy}
 use Rattle.headline.proofs.Members.{got}
-use Rattle.lower.proofs.Laying.{bound, same}
+use Rattle.blocks.proofs.Laying.{bound, same}
 use Rattle.lower.proofs.Dividing.{falls_only}
 use Rattle.lower.proofs.Blocking.{one_time, CutFits}
 use Rattle.lower.proofs.Directed.{IsLeaf}

@@ -26,7 +26,7 @@ use Rattle.bounds.proofs.ListSound.{AllIn, all_in_some, all-append, kept-all, ch
 use Rattle.soundness.specs.Obligations.{anything}
 use Rattle.soundness.specs.Shown.{raised}
 use Rattle.soundness.proofs.Refines.{eq_true}
-use Rattle.lower.proofs.Laying.{same}
+use Rattle.blocks.proofs.Laying.{same}
 use Rattle.completeness.proofs.TakenSites.{Has}
 use Rattle.completeness.proofs.SelfBounds.{found_below, still}
 use Rattle.completeness.proofs.Only.{only_combined}

@@ -14,11 +14,14 @@ use Rattle.algo.specs.Scoping.Standing.{Written}
 use Rattle.sched.specs.declared.numbers.Extent.{Extent}
 use Rattle.sched.specs.Skeleton.{NestText}
 use Rattle.sched.specs.Standing.{◌>>=◌}
-use Rattle.lower.specs.Stored.{FormulaText, StoredText, calls_in, are_calls_of, some_calls}
-use Rattle.lower.specs.Around.{AroundText, interval_in, head_scope, around}
-use Rattle.lower.specs.Regions.{LaidText, ends_of, hull, widen, counts, add_index, add_counted, add_call, add_calls, add_definition, add_definitions, add_laid, add_formulas, add_user, add_users}
-use Rattle.lower.specs.Regions.{add_output, count_of, are_within, extent_between, may_have, extent_of, region_of, laid_over, laid_by, laid_within, laid_functions, unreached, reach_of}
-use Rattle.lower.proofs.Laying.{bound, same}
+use Rattle.sched.specs.Stored.{FormulaText, StoredText, calls_in, are_calls_of}
+use Rattle.regions.specs.Stored.{some_calls}
+use Rattle.sched.specs.Around.{AroundText, interval_in, head_scope, around}
+use Rattle.sched.specs.Regions.{LaidText, counts}
+use Rattle.regions.specs.Regions.{ends_of, hull, widen, add_index, add_counted, add_call, add_calls, add_definition, add_definitions, add_laid, add_formulas, add_user, add_users}
+use Rattle.regions.specs.Regions.{add_output, are_within, extent_between, may_have, extent_of, region_of, laid_over, laid_by, laid_within, laid_functions, unreached, reach_of}
+use Rattle.sched.specs.Regions.{count_of}
+use Rattle.blocks.proofs.Laying.{bound, same}
 use Rattle.lower.proofs.Reached.{Reaches, Grows, after, if_some, grows_users, grows_output, laid_found, region_length}
 use Rattle.completeness.proofs.Standing.{Taken}
 

@@ -24,8 +24,10 @@ use Rattle.validation.specs.Certificate.Lines.{line_flaws, each_line}
 use Rattle.sched.specs.Schedule.{Schedule}
 use Rattle.sched.specs.Legal.{IsLegal}
 use Rattle.lower.specs.declared.lowering.Lowered.{Lowered}
-use Rattle.lower.specs.Stored.{StoredText, stored_functions, has_large}
-use Rattle.lower.specs.Faults.{are_whole, region_fault}
+use Rattle.sched.specs.Stored.{StoredText}
+use Rattle.lower.specs.Stored.{stored_functions, has_large}
+use Rattle.regions.specs.Faults.{are_whole}
+use Rattle.lower.specs.Faults.{region_fault}
 use Rattle.lower.specs.Groups.{AreOwned, HasGroups}
 use Rattle.completeness.specs.Laws.{LinesAreKnown}
 use Rattle.completeness.specs.Owed.{IsNearSpan, IsWithinSpan}

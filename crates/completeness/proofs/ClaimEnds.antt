@@ -11,7 +11,8 @@ use Rattle.sched.specs.declared.schedule.Tail.{Tail}
 use Rattle.sched.specs.declared.schedule.Tail.TheVariants.{Guard, Roundup, Shift}
 use Rattle.sched.specs.declared.numbers.Numbers.{Numbers}
 use Rattle.sched.specs.Numbers.{blocks, numbers_named, last_number}
-use Rattle.lower.specs.Blocks.{sum, difference, product, stepped, factor_of, split_claim_end, claim_end_of}
+use Rattle.blocks.specs.Blocks.{sum, product, stepped, split_claim_end, claim_end_of}
+use Rattle.sched.specs.Blocks.{difference, factor_of}
 use Rattle.lower.specs.Owning.{block_of, place_of}
 use Rattle.lower.proofs.Dividing.{last_above, nearest, nearest_of_small, nearest_order}
 use Rattle.lower.proofs.Blocking.{IsSmall, CutFits, fall, block_last, few_numbers}

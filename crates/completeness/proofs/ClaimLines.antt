@@ -36,17 +36,25 @@ use Rattle.sched.proofs.Arriving.{skeletal}
 use Rattle.validation.specs.Certificate.Placing.{Spot, Place, past, spot_at, group_spot, group_spot_at, place_with, place_in, place_at}
 use Rattle.validation.specs.Certificate.Certificate.{is_of_buffer, is_of_function, is_at, claim_is_known}
 use Rattle.lower.specs.declared.lowering.Lowered.{Lowered}
-use Rattle.lower.specs.Stored.{FormulaText, StoredText, pure_put, change_put, changes_put, formulas_put, flags, stored_functions, has_large}
-use Rattle.lower.specs.Regions.{LaidText, bodies_from, skeleton_of}
-use Rattle.lower.specs.Around.{grid_scope}
-use Rattle.lower.specs.Faults.{are_whole, region_fault}
-use Rattle.lower.specs.Taken.{SiteText, sites_of, taken_region}
-use Rattle.lower.specs.Loading.{Loads}
-use Rattle.lower.specs.Blocks.{dimensions_of, claimed_region, own_places}
-use Rattle.lower.specs.Bodies.{step_lines, first_lines, last_claim, IsStore, AreNests}
-use Rattle.lower.specs.Fetches.{Entry, FetchText, Calls, IsFetched, IsPart, AreFetched, fetched_groups, loads_from, with_fetches}
+use Rattle.sched.specs.Stored.{FormulaText, StoredText}
+use Rattle.blocks.specs.Stored.{pure_put, change_put, changes_put, formulas_put, flags}
+use Rattle.lower.specs.Stored.{stored_functions, has_large}
+use Rattle.sched.specs.Regions.{LaidText}
+use Rattle.regions.specs.Regions.{bodies_from, skeleton_of}
+use Rattle.sched.specs.Around.{grid_scope}
+use Rattle.regions.specs.Faults.{are_whole}
+use Rattle.lower.specs.Faults.{region_fault}
+use Rattle.sched.specs.Taken.{SiteText}
+use Rattle.regions.specs.Taken.{sites_of, taken_region}
+use Rattle.sched.specs.Loading.{Loads}
+use Rattle.blocks.specs.Blocks.{dimensions_of, claimed_region, own_places}
+use Rattle.blocks.specs.Bodies.{step_lines, first_lines, IsStore, AreNests}
+use Rattle.lower.specs.Bodies.{last_claim}
+use Rattle.sched.specs.Fetches.{Entry}
+use Rattle.blocks.specs.Fetches.{FetchText, with_fetches}
+use Rattle.lower.specs.Fetches.{Calls, IsFetched, IsPart, AreFetched, fetched_groups, loads_from}
 use Rattle.lower.specs.Groups.{HasBody, line_behind, HaveBodies, HasGroups}
-use Rattle.lower.proofs.Laying.{bound, same}
+use Rattle.blocks.proofs.Laying.{bound, same}
 use Rattle.completeness.proofs.Only.{AreOnly, SpanOnly}
 use Rattle.completeness.proofs.Standing.{AreLets, names_own}
 use Rattle.completeness.proofs.Sited.{taken_over}

@@ -16,14 +16,20 @@ use Rattle.sched.specs.Legal.{IsLegal, said, loops_after}
 use Rattle.sched.specs.Subjects.{subject_said}
 use Rattle.sched.specs.Skeleton.{NestText}
 use Rattle.lower.specs.declared.lowering.Lowered.{Lowered}
-use Rattle.lower.specs.Stored.{FormulaText, StoredText, stored_by, stored_among, stored_functions, flags, has_large}
-use Rattle.lower.specs.Regions.{LaidText, bodies_from, laid_functions}
-use Rattle.lower.specs.Faults.{are_whole, region_fault}
-use Rattle.lower.specs.Loading.{Loads}
-use Rattle.lower.specs.Around.{grid_scope}
-use Rattle.lower.specs.Taken.{sites_of}
-use Rattle.lower.specs.Bodies.{AreNests, first_lines}
-use Rattle.lower.specs.Fetches.{Entry, FetchText, Calls, AreFetched, is_fetched, fetched_groups}
+use Rattle.sched.specs.Stored.{FormulaText, StoredText}
+use Rattle.blocks.specs.Stored.{stored_by, stored_among, flags}
+use Rattle.lower.specs.Stored.{stored_functions, has_large}
+use Rattle.sched.specs.Regions.{LaidText}
+use Rattle.regions.specs.Regions.{bodies_from, laid_functions}
+use Rattle.regions.specs.Faults.{are_whole}
+use Rattle.lower.specs.Faults.{region_fault}
+use Rattle.sched.specs.Loading.{Loads}
+use Rattle.sched.specs.Around.{grid_scope}
+use Rattle.regions.specs.Taken.{sites_of}
+use Rattle.blocks.specs.Bodies.{AreNests, first_lines}
+use Rattle.sched.specs.Fetches.{Entry}
+use Rattle.blocks.specs.Fetches.{FetchText}
+use Rattle.lower.specs.Fetches.{Calls, AreFetched, is_fetched, fetched_groups}
 use Rattle.lower.specs.Groups.{HasBody, line_behind, HaveBodies, HasGroups, rooted, is_same, rooted_if}
 use Rattle.completeness.proofs.Standing.{nests_long}
 use Rattle.completeness.proofs.Laid.{subjects, found}

@@ -31,12 +31,14 @@ use Rattle.sched.specs.Standing.{◌>>=◌, form_named}
 use Rattle.validation.specs.Groups.Wrong.{IsPutIn, IsLeft, AreLeft, IsDefinition}
 use Rattle.validation.specs.Stored.Definitions.{parts_of, Step, definition_in, stored_in}
 use Rattle.validation.specs.Stored.Stored.{as_read}
-use Rattle.lower.specs.Stored.{FormulaText, put, left_put, lefts_put, pure_put, change_put, changes_put, formulas_put, is_small}
-use Rattle.lower.specs.Regions.{missing_from, bodies_from}
-use Rattle.lower.specs.Around.{names_with, ranges_of}
-use Rattle.lower.specs.Loading.{Loads, as_load}
-use Rattle.lower.specs.Bodies.{first_left, other_lefts, IsIndex, AreCoordinates, IsStored}
-use Rattle.lower.proofs.Laying.{bound, same}
+use Rattle.sched.specs.Stored.{FormulaText}
+use Rattle.blocks.specs.Stored.{put, left_put, lefts_put, pure_put, change_put, changes_put, formulas_put, is_small}
+use Rattle.regions.specs.Regions.{missing_from, bodies_from}
+use Rattle.sched.specs.Around.{names_with, ranges_of}
+use Rattle.sched.specs.Loading.{Loads, as_load}
+use Rattle.sched.specs.Bodies.{first_left, other_lefts}
+use Rattle.blocks.specs.Bodies.{IsIndex, AreCoordinates, IsStored}
+use Rattle.blocks.proofs.Laying.{bound, same}
 use Rattle.completeness.specs.Laws.{NamesNoLoad}
 use Rattle.completeness.proofs.Standing.{HasShape}
 use Rattle.completeness.proofs.ReadBack.{AreClaims, read_back}

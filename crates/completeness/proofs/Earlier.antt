@@ -20,9 +20,12 @@ use Rattle.sched.specs.Schedule.{Schedule}
 use Rattle.sched.specs.Subjects.{subject_said}
 use Rattle.sched.specs.Legal.{said, loops_after}
 use Rattle.sched.specs.Standing.{◌>>=◌}
-use Rattle.lower.specs.Stored.{FormulaText, StoredText, calls_left, calls_in, are_calls_of, some_calls, is_small, put, left_put, lefts_put, pure_put, change_put, changes_put, formulas_put}
-use Rattle.lower.specs.Stored.{stored_by, stored_among, stored_functions, flags}
-use Rattle.lower.proofs.Laying.{bound, same}
+use Rattle.sched.specs.Stored.{FormulaText, StoredText, calls_left, calls_in, are_calls_of}
+use Rattle.regions.specs.Stored.{some_calls}
+use Rattle.blocks.specs.Stored.{is_small, put, left_put, lefts_put, pure_put, change_put, changes_put, formulas_put}
+use Rattle.blocks.specs.Stored.{stored_by, stored_among, flags}
+use Rattle.lower.specs.Stored.{stored_functions}
+use Rattle.blocks.proofs.Laying.{bound, same}
 use Rattle.completeness.proofs.Laid.{subjects}
 
 -- ---- calls that are kept by putting in

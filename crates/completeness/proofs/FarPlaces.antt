@@ -32,12 +32,14 @@ use Rattle.sched.specs.Standing.{form_named, counted_from, has_rest}
 use Rattle.sched.specs.Skeleton.{grid_forms}
 use Rattle.sched.specs.Runs.{lines_to}
 use Rattle.lower.specs.declared.lowering.Lowered.{Lowered}
-use Rattle.lower.specs.Stored.{StoredText, stored_functions, has_large}
-use Rattle.lower.specs.Faults.{are_whole, region_fault}
+use Rattle.sched.specs.Stored.{StoredText}
+use Rattle.lower.specs.Stored.{stored_functions, has_large}
+use Rattle.regions.specs.Faults.{are_whole}
+use Rattle.lower.specs.Faults.{region_fault}
 use Rattle.lower.specs.Owning.{IsExtent, IsLaidBy}
-use Rattle.lower.specs.Blocks.{dimension_of, dimensions_of, lay_over, own_places}
+use Rattle.blocks.specs.Blocks.{dimension_of, dimensions_of, lay_over, own_places}
 use Rattle.lower.specs.Bodies.{last_claim}
-use Rattle.lower.specs.Fetches.{with_fetches}
+use Rattle.blocks.specs.Fetches.{with_fetches}
 use Rattle.lower.specs.Groups.{HasBody, HasGroups}
 use Rattle.lower.proofs.Covering.{NumbersAre}
 use Rattle.lower.proofs.Owners as owners

@@ -47,19 +47,26 @@ use Rattle.sched.specs.Skeleton.{NestText, SkeletonText}
 use Rattle.sched.specs.Standing.{◌>>=◌}
 use Rattle.sched.proofs.Arriving.{skeletal}
 use Rattle.lower.specs.declared.lowering.Lowered.{Lowered}
-use Rattle.lower.specs.Stored.{FormulaText, StoredText, stored_functions, has_large}
-use Rattle.lower.specs.Faults.{are_whole, region_fault}
-use Rattle.lower.specs.Regions.{LaidText, bodies_from}
-use Rattle.lower.specs.Around.{grid_scope}
+use Rattle.sched.specs.Stored.{FormulaText, StoredText}
+use Rattle.lower.specs.Stored.{stored_functions, has_large}
+use Rattle.regions.specs.Faults.{are_whole}
+use Rattle.lower.specs.Faults.{region_fault}
+use Rattle.sched.specs.Regions.{LaidText}
+use Rattle.regions.specs.Regions.{bodies_from}
+use Rattle.sched.specs.Around.{grid_scope}
 use Rattle.lower.specs.Owning.{IsExtent}
-use Rattle.lower.specs.Taken.{SiteText, sites_of, shortest, run_of, places_count, or_all, is_shown, shown, seated, needed_part, tight, part_of, taken_region, taken_places}
-use Rattle.lower.specs.Loading.{Loads}
-use Rattle.lower.specs.Blocks.{dimensions_of, own_places}
-use Rattle.lower.specs.Bodies.{step_lines, first_lines, last_claim, IsStore, AreNests}
-use Rattle.lower.specs.Fetches.{Entry, FetchText, Calls, IsFetched, IsPart, AreFetched, fetched_groups, with_fetches}
+use Rattle.sched.specs.Taken.{SiteText, shortest, run_of, places_count}
+use Rattle.regions.specs.Taken.{sites_of, or_all, is_shown, shown, seated, needed_part, tight, part_of, taken_region, taken_places}
+use Rattle.sched.specs.Loading.{Loads}
+use Rattle.blocks.specs.Blocks.{dimensions_of, own_places}
+use Rattle.blocks.specs.Bodies.{step_lines, first_lines, IsStore, AreNests}
+use Rattle.lower.specs.Bodies.{last_claim}
+use Rattle.sched.specs.Fetches.{Entry}
+use Rattle.blocks.specs.Fetches.{FetchText, with_fetches}
+use Rattle.lower.specs.Fetches.{Calls, IsFetched, IsPart, AreFetched, fetched_groups}
 use Rattle.lower.specs.Groups.{HasBody, HasGroups}
 use Rattle.lower.proofs.Gridded.{AreBetween, taken_between}
-use Rattle.lower.proofs.Laying.{bound, same}
+use Rattle.blocks.proofs.Laying.{bound, same}
 use Rattle.completeness.specs.Laws.{IsFetch}
 use Rattle.completeness.specs.Owed.{EachClaim, ClaimsOf, ClaimsOweShown, IsWithinSpan, AreGridsFew, AreClaimsNear, FetchClaimsOweShown}
 use Rattle.completeness.proofs.Standing.{AreLets, Rises, NamesOwn, names_own}

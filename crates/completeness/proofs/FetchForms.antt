@@ -25,15 +25,20 @@ use Rattle.validation.specs.Groups.Lines.{Here, start}
 use Rattle.validation.specs.Groups.Inside.{Inside}
 use Rattle.validation.specs.Groups.Wrong.{HasWide}
 use Rattle.lower.specs.declared.lowering.Lowered.{Lowered}
-use Rattle.lower.specs.Stored.{FormulaText, StoredText, stored_functions, has_large}
-use Rattle.lower.specs.Faults.{are_whole, region_fault}
-use Rattle.lower.specs.Around.{grid_scope}
+use Rattle.sched.specs.Stored.{FormulaText, StoredText}
+use Rattle.lower.specs.Stored.{stored_functions, has_large}
+use Rattle.regions.specs.Faults.{are_whole}
+use Rattle.lower.specs.Faults.{region_fault}
+use Rattle.sched.specs.Around.{grid_scope}
 use Rattle.lower.specs.Owning.{IsExtent}
-use Rattle.lower.specs.Taken.{sites_of, taken_region}
-use Rattle.lower.specs.Loading.{Loads}
-use Rattle.lower.specs.Blocks.{dimensions_of, own_places}
-use Rattle.lower.specs.Bodies.{last_claim, IsStore, AreNests}
-use Rattle.lower.specs.Fetches.{Entry, FetchText, IsPart, AreFetched, fetched_groups, with_fetches}
+use Rattle.regions.specs.Taken.{sites_of, taken_region}
+use Rattle.sched.specs.Loading.{Loads}
+use Rattle.blocks.specs.Blocks.{dimensions_of, own_places}
+use Rattle.lower.specs.Bodies.{last_claim}
+use Rattle.blocks.specs.Bodies.{IsStore, AreNests}
+use Rattle.sched.specs.Fetches.{Entry}
+use Rattle.blocks.specs.Fetches.{FetchText, with_fetches}
+use Rattle.lower.specs.Fetches.{IsPart, AreFetched, fetched_groups}
 use Rattle.lower.specs.Groups.{HasBody, HasGroups}
 use Rattle.lower.proofs.Extents.{region_is}
 use Rattle.completeness.specs.Laws.{IsFetch, IsWideInside, FetchFormsAreWithin}

@@ -23,16 +23,21 @@ use Rattle.sched.specs.Standing.{◌>>=◌}
 use Rattle.sched.specs.Skeleton.{BodyText}
 use Rattle.spelling.specs.Words.Fitting.{fits_region}
 use Rattle.lower.specs.declared.lowering.Lowered.{Lowered}
-use Rattle.lower.specs.Stored.{StoredText, stored_functions, has_large}
-use Rattle.lower.specs.Around.{grid_scope}
-use Rattle.lower.specs.Faults.{are_whole, region_fault}
-use Rattle.lower.specs.Regions.{bodies_from}
+use Rattle.sched.specs.Stored.{StoredText}
+use Rattle.lower.specs.Stored.{stored_functions, has_large}
+use Rattle.sched.specs.Around.{grid_scope}
+use Rattle.regions.specs.Faults.{are_whole}
+use Rattle.lower.specs.Faults.{region_fault}
+use Rattle.regions.specs.Regions.{bodies_from}
 use Rattle.lower.specs.Owning.{IsExtent}
-use Rattle.lower.specs.Blocks.{difference}
-use Rattle.lower.specs.Taken.{SiteText, sites_of, cut, needed_part, needed_span, is_shown, shown, seated, shortest, run_of, places_count, tight, or_all, part_of, taken_region, taken_places}
-use Rattle.lower.specs.Fetches.{Entry, FetchText, IsPart, fetched_groups}
+use Rattle.sched.specs.Blocks.{difference}
+use Rattle.sched.specs.Taken.{SiteText, shortest, run_of, places_count}
+use Rattle.regions.specs.Taken.{sites_of, cut, needed_part, needed_span, is_shown, shown, seated, tight, or_all, part_of, taken_region, taken_places}
+use Rattle.sched.specs.Fetches.{Entry}
+use Rattle.blocks.specs.Fetches.{FetchText}
+use Rattle.lower.specs.Fetches.{IsPart, fetched_groups}
 use Rattle.lower.specs.Groups.{HasBody, HasGroups}
-use Rattle.lower.proofs.Laying.{bound, same}
+use Rattle.blocks.proofs.Laying.{bound, same}
 use Rattle.lower.proofs.Dividing.{nearest, nearest_of_small, nearest_order}
 use Rattle.completeness.proofs.Bodies.{other_at}
 use Rattle.completeness.proofs.Bounding.{SpanLimited}

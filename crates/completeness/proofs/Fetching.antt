@@ -28,11 +28,11 @@ use Rattle.sched.specs.Runs.{lines_to}
 use Rattle.sched.specs.Order.{Ordered}
 use Rattle.headline.specs.Fetched.{block_fetched_cells, fetches, block_fetches}
 use Rattle.headline.proofs.Parts.{none_fetched}
-use Rattle.lower.specs.Stored.{FormulaText, StoredText}
-use Rattle.lower.specs.Regions.{symbols_from}
-use Rattle.lower.specs.Loading.{Loads}
-use Rattle.lower.specs.Bodies.{IsStore, IsNest, AreNests}
-use Rattle.lower.specs.Fetches.{FetchText, with_fetches}
+use Rattle.sched.specs.Stored.{FormulaText, StoredText}
+use Rattle.sched.specs.Regions.{symbols_from}
+use Rattle.sched.specs.Loading.{Loads}
+use Rattle.blocks.specs.Bodies.{IsStore, IsNest, AreNests}
+use Rattle.blocks.specs.Fetches.{FetchText, with_fetches}
 use Rattle.plan.specs.declared.certificate.cert.Claim.{Claim}
 use Rattle.lower.proofs.Gridded.{OuterSpan}
 

@@ -28,14 +28,20 @@ use Rattle.sched.specs.declared.skeleton.Known.{Known}
 use Rattle.sched.specs.Numbers.{loop_numbers, parallel_loops}
 use Rattle.sched.specs.Skeleton.{range_turning, BodyText, NestText, SkeletonText, loop_turning, is_in_nest, nest_loops, nest_turns, grid_forms}
 use Rattle.lower.specs.declared.lowering.Lowered.{Lowered}
-use Rattle.lower.specs.Stored.{FormulaText, StoredText, flags, stored_functions, has_large}
-use Rattle.lower.specs.Around.{ranges_of}
-use Rattle.lower.specs.Faults.{are_whole, region_fault}
-use Rattle.lower.specs.Regions.{bodies_from}
-use Rattle.lower.specs.Loading.{Loads}
-use Rattle.lower.specs.Blocks.{dimensions_of, claimed_region, own_places}
-use Rattle.lower.specs.Bodies.{last_claim, IsStore, AreNests, step_lines, first_lines}
-use Rattle.lower.specs.Fetches.{Entry, FetchText, with_fetches, loads_from}
+use Rattle.sched.specs.Stored.{FormulaText, StoredText}
+use Rattle.blocks.specs.Stored.{flags}
+use Rattle.lower.specs.Stored.{stored_functions, has_large}
+use Rattle.sched.specs.Around.{ranges_of}
+use Rattle.regions.specs.Faults.{are_whole}
+use Rattle.lower.specs.Faults.{region_fault}
+use Rattle.regions.specs.Regions.{bodies_from}
+use Rattle.sched.specs.Loading.{Loads}
+use Rattle.blocks.specs.Blocks.{dimensions_of, claimed_region, own_places}
+use Rattle.lower.specs.Bodies.{last_claim}
+use Rattle.blocks.specs.Bodies.{IsStore, AreNests, step_lines, first_lines}
+use Rattle.sched.specs.Fetches.{Entry}
+use Rattle.blocks.specs.Fetches.{FetchText, with_fetches}
+use Rattle.lower.specs.Fetches.{loads_from}
 use Rattle.lower.specs.Groups.{HasBody, line_behind, HaveBodies, HasGroups}
 use Rattle.completeness.specs.Laws.{AreLinesTold}
 use Rattle.completeness.specs.Owed.{BindBelow, AllBindBelow, AreGridsFew, AreSymbolsFew}

@@ -23,10 +23,10 @@ use Rattle.sched.specs.Skeleton.{BodyText, NestText, SkeletonText, loop_turning,
 use Rattle.sched.proofs.Leading.{in_left, in_right}
 use Rattle.sched.proofs.Rooting.{all_by_variable}
 use Rattle.sched.proofs.Standings.{Begins, stood, waits, plainly, shifted, begins, Joins, stays, puts, joins, stands_not}
-use Rattle.lower.specs.Bodies.{step_lines}
-use Rattle.lower.specs.Stored.{StoredText}
+use Rattle.blocks.specs.Bodies.{step_lines}
+use Rattle.sched.specs.Stored.{StoredText}
 use Rattle.lower.specs.Owning.{IsLaidBy}
-use Rattle.lower.proofs.Laying.{bound, same}
+use Rattle.blocks.proofs.Laying.{bound, same}
 use Rattle.lower.proofs.Directed.{IsLeaf, AreMade}
 use Rattle.lower.proofs.Owners as owners
 use Rattle.completeness.specs.Laws.{AreSplitOnce}

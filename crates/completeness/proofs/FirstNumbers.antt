@@ -28,11 +28,12 @@ use Rattle.meaning.specs.Conditions.{AreDistinct}
 use Rattle.meaning.proofs.InliningTyped.{both_true, index-is}
 use Rattle.soundness.specs.Obligations.{anything}
 use Rattle.soundness.proofs.Refines.{name_refl, name_true}
-use Rattle.lower.specs.Called.{called}
+use Rattle.sched.specs.Called.{called}
 use Rattle.lower.specs.Held.{AreTyped}
-use Rattle.lower.specs.Around.{exactly}
-use Rattle.lower.specs.Regions.{ends_between, ends_of, symbols_from, greater, less, number_of, greatest_number, least_number, are_within}
-use Rattle.lower.proofs.Laying.{bound, same}
+use Rattle.sched.specs.Around.{exactly}
+use Rattle.regions.specs.Regions.{ends_between, ends_of, greater, less, number_of, greatest_number, least_number, are_within}
+use Rattle.sched.specs.Regions.{symbols_from}
+use Rattle.blocks.proofs.Laying.{bound, same}
 use Rattle.lower.proofs.Reached.{none_is}
 use Rattle.completeness.proofs.Standing.{Taken}
 use Rattle.completeness.proofs.Boxes.{IsCapped, IsLet, IsBox, AreBoxes}

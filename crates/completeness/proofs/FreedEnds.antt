@@ -17,9 +17,10 @@ use Rattle.bounds.specs.Projection.Elimination.{is_inner, eliminated}
 use Rattle.bounds.specs.Projection.Projection.{negated, form_bounds, side_bounds, projected_span}
 use Rattle.bounds.proofs.ListSound.{AllIn, all_in_some, kept-all, all_combined-all}
 use Rattle.sched.specs.declared.numbers.Extent.{Extent}
-use Rattle.lower.specs.Regions.{number_of, greater, less, greatest_number, least_number, symbols_from, ends_between, ends_of, are_within}
-use Rattle.lower.specs.Bounded.{whole}
-use Rattle.lower.proofs.Laying.{bound, same}
+use Rattle.regions.specs.Regions.{number_of, greater, less, greatest_number, least_number, ends_between, ends_of, are_within}
+use Rattle.sched.specs.Regions.{symbols_from}
+use Rattle.sched.specs.Bounded.{whole}
+use Rattle.blocks.proofs.Laying.{bound, same}
 use Rattle.completeness.proofs.Standing.{Taken}
 use Rattle.completeness.proofs.TakenSites.{Has}
 use Rattle.completeness.proofs.Boxes.{AreBoxes, IsLight, IsLightSpan, has_all, one_of_all, fold_all, shown_above, shown_under}

@@ -11,7 +11,7 @@ use Rattle.sched.specs.declared.numbers.Extent.{Extent}
 use Rattle.sched.specs.declared.numbers.Numbers.{Numbers}
 use Rattle.sched.specs.Numbers.{numbers_named, whole_numbers, halves, cut_numbers, loop_numbers, parallel_loops, grid_counts, or_one}
 use Rattle.sched.specs.Skeleton.{SkeletonText}
-use Rattle.lower.specs.Stored.{StoredText}
+use Rattle.sched.specs.Stored.{StoredText}
 use Rattle.lower.specs.Owning.{IsExtent, IsLaidBy}
 use Rattle.lower.proofs.Blocking.{CutFits, few_numbers}
 use Rattle.lower.proofs.Owners as owners

@@ -15,7 +15,7 @@ use Rattle.plan.specs.declared.stmt.Pick.{Pick}
 use Rattle.soundness.specs.Obligations.{Binder, Ranged, Picked, Passed, anything}
 use Rattle.soundness.specs.Binders.View.{grid_span, grid_from, grid_binders}
 use Rattle.rules.specs.Bounding.Scopes.{most_symbols, limited, picked_binding, binding_of, symbol_count, scope_of}
-use Rattle.lower.specs.Around.{grid_symbol, grid_scope}
+use Rattle.sched.specs.Around.{grid_symbol, grid_scope}
 use Rattle.completeness.proofs.GridCounts.{IsShort}
 
 -- ---- numbers are forms within the limits

@@ -21,12 +21,15 @@ use Rattle.sched.specs.Placing.{has_loop}
 use Rattle.sched.specs.Numbers.{numbers_named, loop_numbers, parallel_loops, grid_counts, or_one}
 use Rattle.sched.specs.Standing.{form_named, counted_from}
 use Rattle.sched.specs.Skeleton.{SkeletonText, grid_forms}
-use Rattle.lower.specs.Stored.{StoredText, stored_functions, has_large}
-use Rattle.lower.specs.Regions.{bodies_from}
-use Rattle.lower.specs.Blocks.{BlockText, PartText, Whole, Run, Scattered, LayText, own_last, claim_last, all_ends, with_last, multiple_from, block_end, factor_of, alone_by}
-use Rattle.lower.specs.Blocks.{blocks_by, within_by, joined, part_of, uncut, is_parallel_named, dimension_by, dimension_of, dimensions_of, owned_region, claimed_region, lay_over}
-use Rattle.lower.specs.Bounded.{whole}
-use Rattle.lower.specs.Faults.{are_whole, region_fault}
+use Rattle.sched.specs.Stored.{StoredText}
+use Rattle.lower.specs.Stored.{stored_functions, has_large}
+use Rattle.regions.specs.Regions.{bodies_from}
+use Rattle.blocks.specs.Blocks.{BlockText, PartText, Whole, Run, Scattered, LayText, own_last, claim_last, all_ends, with_last, multiple_from, block_end, alone_by}
+use Rattle.sched.specs.Blocks.{factor_of}
+use Rattle.blocks.specs.Blocks.{blocks_by, within_by, joined, part_of, uncut, is_parallel_named, dimension_by, dimension_of, dimensions_of, owned_region, claimed_region, lay_over}
+use Rattle.sched.specs.Bounded.{whole}
+use Rattle.regions.specs.Faults.{are_whole}
+use Rattle.lower.specs.Faults.{region_fault}
 use Rattle.lower.specs.Groups.{HasGroups}
 use Rattle.lower.specs.Owning.{IsLaidBy}
 use Rattle.lower.specs.declared.lowering.Lowered.{Lowered}

@@ -18,9 +18,12 @@ use Rattle.validation.specs.Groups.Inside.{Begins}
 use Rattle.validation.specs.Groups.Wrong.{LacksVariables, GroupNamesUnknown}
 use Rattle.validation.specs.Wide.{SpanNamesOther, RegionNamesOther}
 use Rattle.lower.specs.declared.lowering.Lowered.{Lowered}
-use Rattle.lower.specs.Stored.{StoredText, stored_by, stored_among, stored_functions, flags, has_large}
-use Rattle.lower.specs.Bounded.{whole}
-use Rattle.lower.specs.Faults.{are_whole, region_fault}
+use Rattle.sched.specs.Stored.{StoredText}
+use Rattle.blocks.specs.Stored.{stored_by, stored_among, flags}
+use Rattle.lower.specs.Stored.{stored_functions, has_large}
+use Rattle.sched.specs.Bounded.{whole}
+use Rattle.regions.specs.Faults.{are_whole}
+use Rattle.lower.specs.Faults.{region_fault}
 use Rattle.lower.specs.Groups.{HasGroups}
 use Rattle.completeness.specs.Laws.{GroupLinesAreKnown}
 use Rattle.completeness.proofs.Laid.{subjects, found}

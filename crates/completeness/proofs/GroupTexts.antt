@@ -13,9 +13,11 @@ use Rattle.sched.specs.Legal.{IsLegal}
 use Rattle.sched.specs.declared.skeleton.Known.{Known}
 use Rattle.sched.specs.Skeleton.{SkeletonText}
 use Rattle.lower.specs.declared.lowering.Lowered.{Lowered}
-use Rattle.lower.specs.Stored.{StoredText, stored_functions, has_large}
-use Rattle.lower.specs.Faults.{are_whole, region_fault}
-use Rattle.lower.specs.Blocks.{dimensions_of, owned_region, claimed_region, own_places}
+use Rattle.sched.specs.Stored.{StoredText}
+use Rattle.lower.specs.Stored.{stored_functions, has_large}
+use Rattle.regions.specs.Faults.{are_whole}
+use Rattle.lower.specs.Faults.{region_fault}
+use Rattle.blocks.specs.Blocks.{dimensions_of, owned_region, claimed_region, own_places}
 use Rattle.lower.specs.Groups.{HasGroups}
 use Rattle.completeness.specs.Owed.{IsNearSpan, IsWithinSpan}
 use Rattle.completeness.specs.Fitting.{IsSplitOnce}

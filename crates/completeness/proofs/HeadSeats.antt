@@ -26,7 +26,7 @@ use Rattle.completeness.proofs.NestWalk.{lets_around}
 use Rattle.sched.specs.Skeleton.{span}
 use Rattle.tails.specs.Moves.{joined, single, each_replaced, is_positive, expanded}
 use Rattle.tails.specs.Maps.{spelled_out, or_these}
-use Rattle.lower.specs.Around.{grid_symbol}
+use Rattle.sched.specs.Around.{grid_symbol}
 use Rattle.soundness.specs.Binders.View.{grid_from}
 use Rattle.completeness.proofs.GridCounts.{IsShort}
 use Rattle.completeness.proofs.GridScope.{number_limited, grid_tells}

@@ -17,9 +17,11 @@ use Rattle.validation.specs.declared.stored.lines.GroupLines.{GroupLines}
 use Rattle.validation.specs.Groups.Lines.{lines_from}
 use Rattle.validation.specs.Groups.Wrong.{IsOutside}
 use Rattle.lower.specs.declared.lowering.Lowered.{Lowered}
-use Rattle.lower.specs.Stored.{StoredText, stored_functions, has_large}
-use Rattle.lower.specs.Faults.{are_whole, region_fault}
-use Rattle.lower.specs.Fetches.{Entry}
+use Rattle.sched.specs.Stored.{StoredText}
+use Rattle.lower.specs.Stored.{stored_functions, has_large}
+use Rattle.regions.specs.Faults.{are_whole}
+use Rattle.lower.specs.Faults.{region_fault}
+use Rattle.sched.specs.Fetches.{Entry}
 use Rattle.lower.specs.Groups.{HasBody, HasGroups}
 use Rattle.completeness.specs.Laws.{AreLinesTold}
 use Rattle.completeness.proofs.Served.{roots}

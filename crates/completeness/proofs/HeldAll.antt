@@ -16,14 +16,16 @@ use Rattle.headline.proofs.Members.{got}
 use Rattle.sched.specs.declared.numbers.Extent.{Extent}
 use Rattle.sched.specs.Standing.{◌>>=◌}
 use Rattle.sched.specs.Skeleton.{NestText}
-use Rattle.lower.specs.Called.{called}
-use Rattle.lower.specs.Stored.{FormulaText, StoredText, calls_in}
-use Rattle.lower.specs.Around.{AroundText, interval_in, head_scope, bind_steps, names_with, left_around, coordinates_behind, around}
-use Rattle.lower.specs.Regions.{LaidText, ends_of, are_within}
-use Rattle.lower.specs.Bounded.{whole}
-use Rattle.lower.specs.Taken.{SiteText, add_calls, with_site, add_site, add_sites, holds_calls, hold_calls}
+use Rattle.sched.specs.Called.{called}
+use Rattle.sched.specs.Stored.{FormulaText, StoredText, calls_in}
+use Rattle.sched.specs.Around.{AroundText, interval_in, head_scope, bind_steps, names_with, left_around, coordinates_behind, around}
+use Rattle.sched.specs.Regions.{LaidText}
+use Rattle.regions.specs.Regions.{ends_of, are_within}
+use Rattle.sched.specs.Bounded.{whole}
+use Rattle.sched.specs.Taken.{SiteText}
+use Rattle.regions.specs.Taken.{add_calls, with_site, add_site, add_sites, holds_calls, hold_calls}
 use Rattle.lower.specs.Owning.{IsExtent}
-use Rattle.lower.proofs.Laying.{bound, same}
+use Rattle.blocks.proofs.Laying.{bound, same}
 use Rattle.completeness.proofs.TakenSites.{Has, sites_kept}
 use Rattle.completeness.proofs.SitesAt.{one_site}
 use Rattle.completeness.proofs.RegionBounds.{IsEnded}

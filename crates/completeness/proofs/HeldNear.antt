@@ -27,11 +27,16 @@ use Rattle.sched.specs.Skeleton.{BodyText, NestText, SkeletonText, range_turning
 use Rattle.sched.specs.Standing.{form_named}
 use Rattle.sched.proofs.Arriving.{skeletal}
 use Rattle.lower.specs.declared.lowering.Lowered.{Lowered}
-use Rattle.lower.specs.Called.{called}
-use Rattle.lower.specs.Stored.{FormulaText, StoredText, left_at, calls_left, calls_in, some_calls, flags, formulas_put, stored_functions, has_large}
-use Rattle.lower.specs.Around.{AroundText, interval_in, range_names, ranges_of, names_with, head_scope, bind_steps, left_around, around, coordinates_behind}
-use Rattle.lower.specs.Faults.{are_whole, region_fault}
-use Rattle.lower.specs.Regions.{LaidText, ends_of, are_within, bodies_from, skeleton_of, laid_functions}
+use Rattle.sched.specs.Called.{called}
+use Rattle.sched.specs.Stored.{FormulaText, StoredText, left_at, calls_left, calls_in}
+use Rattle.regions.specs.Stored.{some_calls}
+use Rattle.blocks.specs.Stored.{flags, formulas_put}
+use Rattle.lower.specs.Stored.{stored_functions, has_large}
+use Rattle.sched.specs.Around.{AroundText, interval_in, range_names, ranges_of, names_with, head_scope, bind_steps, left_around, around, coordinates_behind}
+use Rattle.regions.specs.Faults.{are_whole}
+use Rattle.lower.specs.Faults.{region_fault}
+use Rattle.sched.specs.Regions.{LaidText}
+use Rattle.regions.specs.Regions.{ends_of, are_within, bodies_from, skeleton_of, laid_functions}
 use Rattle.lower.specs.Groups.{HasGroups}
 use Rattle.lower.proofs.Extents.{region_is}
 use Rattle.completeness.specs.Stores.{AreHeld}
@@ -47,7 +52,7 @@ use Rattle.completeness.proofs.Written.{IsWritten, LeftIsOver, written, variable
 use Rattle.completeness.proofs.RangedLefts.{left_got, left_typed}
 use Rattle.completeness.proofs.LeftNumbers.{ordered, spans_in, around_ordered, around_value}
 use Rattle.completeness.proofs.Standing.{Taken}
-use Rattle.lower.proofs.Laying.{bound, same}
+use Rattle.blocks.proofs.Laying.{bound, same}
 use Rattle.completeness.proofs.UpdateTurns.{known_update, ranges_turned, all_mapped}
 use Rattle.completeness.proofs.LoadedTerms.{IsTypedCall, calls_typed}
 use Rattle.completeness.proofs.StoreBounds.{called_is}

@@ -23,14 +23,15 @@ use Rattle.headline.proofs.Members.{got}
 use Rattle.algo.specs.Scoping.Standing.{Written, calls_of, calls_of_test, calls_of_all}
 use Rattle.sched.specs.declared.numbers.Extent.{Extent}
 use Rattle.sched.specs.Standing.{◌>>=◌}
-use Rattle.lower.specs.Called.{called}
-use Rattle.lower.specs.Around.{AroundText, interval_in}
-use Rattle.lower.specs.Regions.{ends_of, symbols_from, are_within}
-use Rattle.lower.specs.Bounded.{whole}
-use Rattle.lower.specs.Taken.{add_spans, add_call, add_calls, holds_call, holds_calls}
+use Rattle.sched.specs.Called.{called}
+use Rattle.sched.specs.Around.{AroundText, interval_in}
+use Rattle.regions.specs.Regions.{ends_of, are_within}
+use Rattle.sched.specs.Regions.{symbols_from}
+use Rattle.sched.specs.Bounded.{whole}
+use Rattle.regions.specs.Taken.{add_spans, add_call, add_calls, holds_call, holds_calls}
 use Rattle.lower.specs.Held.{AreTyped}
 use Rattle.lower.specs.Owning.{IsExtent}
-use Rattle.lower.proofs.Laying.{bound, same}
+use Rattle.blocks.proofs.Laying.{bound, same}
 use Rattle.completeness.proofs.Standing.{Taken}
 use Rattle.completeness.proofs.TakenSites.{Has}
 use Rattle.completeness.proofs.RegionBounds.{IsEnded}

@@ -23,10 +23,12 @@ use Rattle.sched.specs.declared.skeleton.Step.{Step}
 use Rattle.sched.specs.declared.skeleton.Step.TheVariants.{Turns, Named, Tested}
 use Rattle.sched.specs.Runs.{lines_to}
 use Rattle.sched.specs.Skeleton.{NestText}
-use Rattle.lower.specs.Stored.{FormulaText, StoredText}
-use Rattle.lower.specs.Loading.{Loads}
-use Rattle.lower.specs.Bodies.{step_lines, IsStore, AreNests}
-use Rattle.lower.specs.Fetches.{Entry, FetchText, Calls, AreFetched, loads_from, with_fetches}
+use Rattle.sched.specs.Stored.{FormulaText, StoredText}
+use Rattle.sched.specs.Loading.{Loads}
+use Rattle.blocks.specs.Bodies.{step_lines, IsStore, AreNests}
+use Rattle.sched.specs.Fetches.{Entry}
+use Rattle.blocks.specs.Fetches.{FetchText, with_fetches}
+use Rattle.lower.specs.Fetches.{Calls, AreFetched, loads_from}
 use Rattle.completeness.specs.Laws.{IsStore as IsStoreLine}
 use Rattle.completeness.specs.Owed.{EachLine, EachOf}
 use Rattle.completeness.proofs.Standing.{AreLets}

@@ -18,15 +18,21 @@ use Rattle.sched.specs.declared.skeleton.Step.{Step}
 use Rattle.sched.specs.declared.skeleton.Step.TheVariants.{Turns, Named, Tested}
 use Rattle.sched.specs.Skeleton.{NestText, SkeletonText}
 use Rattle.sched.specs.Runs.{lines_to}
-use Rattle.lower.specs.Stored.{FormulaText, StoredText}
-use Rattle.lower.specs.Regions.{LaidText, skeleton_of}
-use Rattle.lower.specs.Loading.{Loads}
-use Rattle.lower.specs.Blocks.{dimensions_of, claimed_region}
-use Rattle.lower.specs.Bodies.{IsStore, AreNests, IsBodyWith}
-use Rattle.lower.specs.Fetches.{Entry, FetchText, Calls, AreFetched, fetched_groups, with_fetches}
-use Rattle.lower.specs.Placed.{PlacedText, numbered, picked, AreFetchedBy, with_fetched, begun, names_over, group_owner}
-use Rattle.lower.specs.Groups.{is_same, rooted_if, rooted, IsOverRegion, AreOverRegions, IsOver, AreMade, IsBodyBy, line_behind, AreBodiesBy}
-use Rattle.lower.proofs.Laying.{same}
+use Rattle.sched.specs.Stored.{FormulaText, StoredText}
+use Rattle.sched.specs.Regions.{LaidText}
+use Rattle.regions.specs.Regions.{skeleton_of}
+use Rattle.sched.specs.Loading.{Loads}
+use Rattle.blocks.specs.Blocks.{dimensions_of, claimed_region}
+use Rattle.blocks.specs.Bodies.{IsStore, AreNests, IsBodyWith}
+use Rattle.sched.specs.Fetches.{Entry}
+use Rattle.blocks.specs.Fetches.{FetchText, with_fetches}
+use Rattle.lower.specs.Fetches.{Calls, AreFetched, fetched_groups}
+use Rattle.sched.specs.Placed.{PlacedText}
+use Rattle.lower.specs.Placed.{numbered, picked, AreFetchedBy, with_fetched}
+use Rattle.blocks.specs.Placed.{begun, names_over, group_owner}
+use Rattle.lower.specs.Groups.{is_same, rooted_if, rooted, IsOverRegion, AreOverRegions, AreMade, IsBodyBy, line_behind, AreBodiesBy}
+use Rattle.blocks.specs.Groups.{IsOver}
+use Rattle.blocks.proofs.Laying.{same}
 use Rattle.completeness.proofs.Bodies.{other_at}
 use Rattle.completeness.proofs.Unlike.{Numbered, first_numbered, second_numbered}
 use Rattle.completeness.proofs.Seats.{Allots, AllotAll, allots_joined}

@@ -32,22 +32,27 @@ use Rattle.validation.specs.Groups.Inside.{Inside, InsideOne, StandsIn}
 use Rattle.validation.specs.Groups.Wrong.{NamesUnknown}
 use Rattle.validation.proofs.Wide.{contains_is}
 use Rattle.lower.specs.declared.lowering.Lowered.{Lowered}
-use Rattle.lower.specs.declared.spots.Host.{Host}
-use Rattle.lower.specs.declared.spots.Host.TheVariants.{Own, Inner as Within, Later as Anew}
-use Rattle.lower.specs.declared.spots.Spot.{Spot}
-use Rattle.lower.specs.Stored.{FormulaText, StoredText, stored_functions}
-use Rattle.lower.specs.Regions.{bodies_from, skeleton_of}
-use Rattle.lower.specs.Loading.{Loads}
-use Rattle.lower.specs.Blocks.{dimensions_of, claimed_region}
-use Rattle.lower.specs.Bodies.{IsStore, AreNests, IsBodyWith}
-use Rattle.lower.specs.Fetches.{Entry, FetchText, with_fetches}
-use Rattle.lower.specs.Homes.{HostText, host_at, with_nests}
-use Rattle.lower.specs.Demanded.{scope_at, nest_at, first_steps, steps_at}
-use Rattle.lower.specs.Slid.{TrackText, track_here, or_here, track_of, sliding_dimension, unless_scattered, sliding_in, sliding_at, held_along, HasLater, HoldsBy, Holds}
+use Rattle.sched.specs.declared.hosts.Host.{Host}
+use Rattle.sched.specs.declared.hosts.Host.TheVariants.{Own, Inner as Within, Later as Anew}
+use Rattle.sched.specs.declared.hosts.Spot.{Spot}
+use Rattle.sched.specs.Stored.{FormulaText, StoredText}
+use Rattle.lower.specs.Stored.{stored_functions}
+use Rattle.regions.specs.Regions.{bodies_from, skeleton_of}
+use Rattle.sched.specs.Loading.{Loads}
+use Rattle.blocks.specs.Blocks.{dimensions_of, claimed_region}
+use Rattle.blocks.specs.Bodies.{IsStore, AreNests, IsBodyWith}
+use Rattle.sched.specs.Fetches.{Entry}
+use Rattle.blocks.specs.Fetches.{FetchText, with_fetches}
+use Rattle.regions.specs.Homes.{HostText, host_at, with_nests}
+use Rattle.regions.specs.Demanded.{scope_at, nest_at, first_steps, steps_at}
+use Rattle.regions.specs.Slid.{TrackText, track_here, or_here, track_of, sliding_dimension}
+use Rattle.lower.specs.Slid.{unless_scattered, sliding_in, sliding_at, held_along, HasLater, HoldsBy, Holds}
 use Rattle.lower.specs.Computed.{IsComputed, AreComputedIf, AreFound, AreAllFound}
-use Rattle.lower.specs.Placed.{LaterText, PlacedText, OwnerText, IsMixedBody, with_fetched, begun, names_over, group_owner, owner, same_host, same_number, same_spot, spot, over_grid}
+use Rattle.sched.specs.Placed.{LaterText, PlacedText, OwnerText, same_host, same_number, spot}
+use Rattle.lower.specs.Placed.{IsMixedBody, with_fetched}
+use Rattle.blocks.specs.Placed.{begun, names_over, group_owner, owner, same_spot, over_grid}
 use Rattle.lower.specs.Groups.{rooted, HasGroups, IsBodyBy}
-use Rattle.lower.proofs.Laying.{bound, same}
+use Rattle.blocks.proofs.Laying.{bound, same}
 use Rattle.completeness.specs.Inside.{IsFirst, ChoiceLinesAreKnown}
 use Rattle.completeness.proofs.Walked.{AreFine, AreSteps, StandsAt, group_done}
 use Rattle.completeness.proofs.WalkedTurns.{IsLoopOf, IsApart, rises_apart, Chooses, ChooseAll, joined_choose, Choosing, choosing_each}

@@ -15,11 +15,13 @@ use Rattle.validation.specs.Groups.Inside.{Begins}
 use Rattle.validation.specs.Groups.Wrong.{LacksVariables, GroupNamesUnknown}
 use Rattle.validation.specs.Wide.{RegionNamesOther}
 use Rattle.lower.specs.declared.lowering.Lowered.{Lowered}
-use Rattle.lower.specs.Stored.{FormulaText, StoredText, stored_functions, flags}
-use Rattle.lower.specs.Regions.{LaidText}
-use Rattle.lower.specs.Fetches.{Entry}
+use Rattle.sched.specs.Stored.{FormulaText, StoredText}
+use Rattle.lower.specs.Stored.{stored_functions}
+use Rattle.blocks.specs.Stored.{flags}
+use Rattle.sched.specs.Regions.{LaidText}
+use Rattle.sched.specs.Fetches.{Entry}
 use Rattle.lower.specs.Groups.{is_same, rooted_if, rooted, IsGroupOf, AreGroupsOf, root_functions, HasGroups}
-use Rattle.lower.proofs.Laying.{same}
+use Rattle.blocks.proofs.Laying.{same}
 use Rattle.completeness.proofs.LoopedAsked.{all_regions}
 use Rattle.completeness.specs.Looped.{IsRegion, IsRegionIf, AreRegions}
 use Rattle.completeness.specs.Inside.{AllGroupLinesAreKnown}

@@ -7,7 +7,8 @@ use Rattle.meaning.specs.Names.{same_name}
 use Rattle.sched.specs.Subjects.{is_output, has_home}
 use Rattle.sched.specs.Placing.{has_root}
 use Rattle.headline.proofs.Lists.{at_map}
-use Rattle.lower.specs.Stored.{StoredText, stored_functions}
+use Rattle.sched.specs.Stored.{StoredText}
+use Rattle.lower.specs.Stored.{stored_functions}
 use Rattle.lower.specs.Groups.{root_functions}
 use Rattle.shares.proofs.Groups.{all_at_place}
 use Rattle.completeness.specs.Inside.{HeadsStand}

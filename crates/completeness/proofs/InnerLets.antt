@@ -15,16 +15,21 @@ use Rattle.sched.specs.declared.skeleton.Step.{Step}
 use Rattle.sched.specs.declared.skeleton.Step.TheVariants.{Turns, Named, Tested}
 use Rattle.sched.specs.Skeleton.{NestText}
 use Rattle.sched.specs.Standing.{◌>>=◌, alone}
-use Rattle.lower.specs.Stored.{FormulaText, StoredText}
-use Rattle.lower.specs.Around.{bind_steps}
-use Rattle.lower.specs.Blocks.{sum, difference, product}
-use Rattle.lower.specs.Parted.{told_span, nests_over, parted_nests}
-use Rattle.lower.specs.Rounded.{NamesText, name, next_name, RestsText, none_below, rests_from, add_parts, end_of, with_block, count_rests, count_past, count, count_all, counted, tally_of}
-use Rattle.lower.specs.Rounded.{run_over, is_counted}
-use Rattle.lower.specs.Rounded.{counted_run, counted_by, count_of, alone_run, told_run, run_if, run_in, rounding_of, run_by, run_at, BegunText, unnamed, with_run, runs_from, with_lets}
-use Rattle.lower.specs.Rounded.{named_over, LainText}
-use Rattle.lower.specs.Rounded.{calls_itself, is_plain, lain_plainly, or_lain, is_allowed, lain_if, lain_behind, lain_named, lain_rounded, lain_over, lain_kept}
-use Rattle.lower.proofs.Laying.{bound, same}
+use Rattle.sched.specs.Stored.{FormulaText, StoredText}
+use Rattle.sched.specs.Around.{bind_steps}
+use Rattle.blocks.specs.Blocks.{sum, product}
+use Rattle.sched.specs.Blocks.{difference}
+use Rattle.blocks.specs.Parted.{told_span}
+use Rattle.lower.specs.Parted.{nests_over, parted_nests}
+use Rattle.blocks.specs.Rounded.{NamesText, name, next_name, RestsText, none_below, rests_from, add_parts, end_of, with_block, count_rests, count_past, count, count_all, counted}
+use Rattle.blocks.specs.Rounded.{tally_of}
+use Rattle.blocks.specs.Rounded.{run_over, is_counted}
+use Rattle.blocks.specs.Rounded.{counted_run, counted_by, count_of, alone_run, told_run, run_if, run_in, rounding_of, run_by, run_at, BegunText, unnamed, with_run, runs_from, with_lets}
+use Rattle.blocks.specs.Rounded.{named_over}
+use Rattle.lower.specs.Rounded.{LainText}
+use Rattle.blocks.specs.Rounded.{calls_itself, is_plain, is_allowed}
+use Rattle.lower.specs.Rounded.{lain_plainly, or_lain, lain_if, lain_behind, lain_named, lain_rounded, lain_over, lain_kept}
+use Rattle.blocks.proofs.Laying.{bound, same}
 
 -- what functions give and take
 abbrev Given : (A B : Type 0) → (A → B) → Type 0

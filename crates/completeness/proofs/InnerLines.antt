@@ -32,12 +32,15 @@ use Rattle.validation.specs.Groups.Wrong.{NamesUnknown}
 use Rattle.validation.proofs.Wide.{contains_is, is_contained}
 use Rattle.lower.specs.declared.lowering.Lowered.{Lowered}
 use Rattle.lower.specs.Stored.{stored_functions}
-use Rattle.lower.specs.Regions.{bodies_from, skeleton_of}
-use Rattle.lower.specs.Blocks.{dimensions_of, claimed_region, own_places}
+use Rattle.regions.specs.Regions.{bodies_from, skeleton_of}
+use Rattle.blocks.specs.Blocks.{dimensions_of, claimed_region, own_places}
 use Rattle.lower.specs.Bodies.{last_claim}
-use Rattle.lower.specs.Fetches.{Entry, FetchText, with_fetches}
-use Rattle.lower.specs.Renamed.{own_pairs}
-use Rattle.lower.specs.Placed.{PlacedText, IsMixedBody, with_fetched, begun, names_over, group_owner}
+use Rattle.sched.specs.Fetches.{Entry}
+use Rattle.blocks.specs.Fetches.{FetchText, with_fetches}
+use Rattle.blocks.specs.Renamed.{own_pairs}
+use Rattle.sched.specs.Placed.{PlacedText}
+use Rattle.lower.specs.Placed.{IsMixedBody, with_fetched}
+use Rattle.blocks.specs.Placed.{begun, names_over, group_owner}
 use Rattle.lower.specs.Groups.{rooted, HasGroups, IsBodyBy}
 use Rattle.lower.proofs.Grids.{head_of}
 use Rattle.completeness.specs.Laws.{IsStep}

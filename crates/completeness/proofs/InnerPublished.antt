@@ -27,13 +27,19 @@ use Rattle.validation.specs.Groups.Lines.{Here, in_loop, inside, in_later, befor
 use Rattle.validation.specs.Groups.Inside.{Inside, InsideOne, StandsIn}
 use Rattle.validation.specs.Groups.Wrong.{IsOutside, NamesUnknown}
 use Rattle.lower.specs.declared.lowering.Lowered.{Lowered}
-use Rattle.lower.specs.Stored.{FormulaText, StoredText, stored_functions}
-use Rattle.lower.specs.Regions.{bodies_from, skeleton_of}
-use Rattle.lower.specs.Loading.{Loads}
-use Rattle.lower.specs.Blocks.{dimensions_of, claimed_region, own_places}
-use Rattle.lower.specs.Bodies.{IsStore, AreNests, IsBodyWith, step_lines, first_lines, last_claim}
-use Rattle.lower.specs.Fetches.{Entry, FetchText, loads_from, with_fetches}
-use Rattle.lower.specs.Placed.{PlacedText, AreFetchedBy, IsMixedBody, with_fetched, begun, names_over, group_owner, group_nests}
+use Rattle.sched.specs.Stored.{FormulaText, StoredText}
+use Rattle.lower.specs.Stored.{stored_functions}
+use Rattle.regions.specs.Regions.{bodies_from, skeleton_of}
+use Rattle.sched.specs.Loading.{Loads}
+use Rattle.blocks.specs.Blocks.{dimensions_of, claimed_region, own_places}
+use Rattle.blocks.specs.Bodies.{IsStore, AreNests, IsBodyWith, step_lines, first_lines}
+use Rattle.lower.specs.Bodies.{last_claim}
+use Rattle.sched.specs.Fetches.{Entry}
+use Rattle.blocks.specs.Fetches.{FetchText, with_fetches}
+use Rattle.lower.specs.Fetches.{loads_from}
+use Rattle.sched.specs.Placed.{PlacedText}
+use Rattle.lower.specs.Placed.{AreFetchedBy, IsMixedBody, with_fetched}
+use Rattle.blocks.specs.Placed.{begun, names_over, group_owner, group_nests}
 use Rattle.lower.specs.Groups.{rooted, HasGroups, IsBodyBy, line_behind}
 use Rattle.completeness.specs.Laws.{IsPublish, AreLinesTold}
 use Rattle.completeness.specs.Inside.{LastLinesAreKnown}

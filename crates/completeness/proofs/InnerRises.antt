@@ -15,15 +15,17 @@ use Rattle.sched.specs.declared.skeleton.Step.TheVariants.{Turns, Named, Tested}
 use Rattle.sched.specs.Numbers.{numbers_named, loop_numbers}
 use Rattle.sched.specs.Skeleton.{BodyText, NestText, nest_of}
 use Rattle.sched.specs.Standing.{◌>>=◌, StandingText, form_named, alone, is_now, starts_at, innermost}
-use Rattle.lower.specs.Stored.{StoredText}
-use Rattle.lower.specs.Taken.{shortest}
-use Rattle.lower.specs.Turned.{range_run, steps_of}
-use Rattle.lower.specs.Parted.{FrameText, all_runs, body_cuts, begun, nest_in, most_of, add_extents, is_cut, told_span, rounding, lower_of, last_first, let_of, one_of, low_of, last_of, facts_of}
-use Rattle.lower.specs.Parted.{reach_by, reach_told, reach_of, with_even, reach_at, with_reach, reaches_from, half_reach, kept_of, frame_with, frame_by, frame_of}
-use Rattle.lower.specs.Rounded.{BegunText}
-use Rattle.lower.specs.Settled.{picks, tests, tests_if, limited, is_known, is_asked, begin_at, begin_over, keep_by_let, keep_by_guard, keep_by, told_form, put_together, join_over, join}
-use Rattle.lower.specs.Settled.{begin, reach_named, is_guarded, enter, is_lanes, settle_by, settle_one, settle, turn, turn_all}
-use Rattle.lower.proofs.Laying.{bound, same}
+use Rattle.sched.specs.Stored.{StoredText}
+use Rattle.sched.specs.Taken.{shortest}
+use Rattle.sched.specs.Turned.{range_run}
+use Rattle.regions.specs.Turned.{steps_of}
+use Rattle.sched.specs.Parted.{FrameText, all_runs, body_cuts, begun, nest_in, most_of, add_extents}
+use Rattle.blocks.specs.Parted.{is_cut, told_span, rounding, lower_of, last_first, let_of, one_of, low_of, last_of, facts_of}
+use Rattle.blocks.specs.Parted.{reach_by, reach_told, reach_of, with_even, reach_at, with_reach, reaches_from, half_reach, kept_of, frame_with, frame_by, frame_of}
+use Rattle.blocks.specs.Rounded.{BegunText}
+use Rattle.sched.specs.Settled.{picks, tests, tests_if, limited, is_known, is_asked, begin_at, begin_over, keep_by_let, keep_by_guard, keep_by, told_form, put_together, join_over, join}
+use Rattle.sched.specs.Settled.{begin, reach_named, is_guarded, enter, is_lanes, settle_by, settle_one, settle, turn, turn_all}
+use Rattle.blocks.proofs.Laying.{bound, same}
 use Rattle.completeness.proofs.Standing.{Rises, rises_joined}
 
 -- what functions give

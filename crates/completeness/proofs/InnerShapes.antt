@@ -8,24 +8,29 @@ use Rattle.meaning.specs.Algorithm.{Algorithm}
 use Rattle.sched.specs.declared.schedule.Split.{Split}
 use Rattle.sched.specs.Skeleton.{BodyText, NestText, nest_of as laid_nest}
 use Rattle.sched.specs.Standing.{◌>>=◌, StandingText}
-use Rattle.lower.specs.Stored.{FormulaText, StoredText}
-use Rattle.lower.specs.Regions.{LaidText, bodies_from}
-use Rattle.lower.specs.Fetches.{Entry}
-use Rattle.lower.specs.Around.{bind_steps}
+use Rattle.sched.specs.Stored.{FormulaText, StoredText}
+use Rattle.sched.specs.Regions.{LaidText}
+use Rattle.regions.specs.Regions.{bodies_from}
+use Rattle.sched.specs.Fetches.{Entry}
+use Rattle.sched.specs.Around.{bind_steps}
 use Rattle.lower.specs.Groups.{is_same, rooted_if, rooted}
-use Rattle.lower.specs.Placed.{LaterText, PlacedText}
-use Rattle.lower.specs.Turned.{steps_of, known_of, nest_of, all_runs, add_nests, are_bounded}
-use Rattle.lower.specs.Parted as parted
-use Rattle.lower.specs.Parted.{FrameText, body_cuts, begun, nest_in, frame_of, nest_over, nests_from, parted_nests, kept_region, nests_by, nests_over, nests_kept}
-use Rattle.lower.specs.Settled.{turn_all}
-use Rattle.lower.specs.Rounded.{LainText, BegunText, unnamed, calls_itself, is_plain, lain_plainly, or_lain, is_allowed, lain_if, lain_behind, lain_named, lain_rounded, lain_over, lain_kept}
-use Rattle.lower.specs.Rounded.{named_over}
-use Rattle.lower.specs.Slid.{TrackText, sliding_at, new_region, Holds, HoldsBy, held_along, HasLater}
-use Rattle.lower.specs.Demanded.{scope_at}
+use Rattle.sched.specs.Placed.{LaterText, PlacedText}
+use Rattle.regions.specs.Turned.{steps_of, known_of, nest_of, all_runs, add_nests, are_bounded}
+use Rattle.sched.specs.Parted as parted
+use Rattle.sched.specs.Parted.{FrameText, body_cuts, begun, nest_in}
+use Rattle.blocks.specs.Parted.{frame_of, nest_over, nests_from, kept_region}
+use Rattle.lower.specs.Parted.{parted_nests, nests_by, nests_over, nests_kept}
+use Rattle.sched.specs.Settled.{turn_all}
+use Rattle.lower.specs.Rounded.{LainText, lain_plainly, or_lain, lain_if, lain_behind, lain_named, lain_rounded, lain_over, lain_kept}
+use Rattle.blocks.specs.Rounded.{BegunText, unnamed, calls_itself, is_plain, is_allowed}
+use Rattle.blocks.specs.Rounded.{named_over}
+use Rattle.regions.specs.Slid.{TrackText, new_region}
+use Rattle.lower.specs.Slid.{sliding_at, Holds, HoldsBy, held_along, HasLater}
+use Rattle.regions.specs.Demanded.{scope_at}
 use Rattle.lower.specs.Computed.{IsComputed, AreComputedIf, AreFound, AreAllFound}
 use Rattle.headline.proofs.Lists.{parted as parted_at}
 use Rattle.shares.proofs.Groups.{push_each}
-use Rattle.lower.proofs.Laying.{bound, same}
+use Rattle.blocks.proofs.Laying.{bound, same}
 use Rattle.completeness.proofs.Standing.{HasShape, Rises}
 use Rattle.completeness.proofs.InnerRises.{loops_rise, nest_rises}
 use Rattle.completeness.proofs.InnerLets.{AreNamed, lets_named}

@@ -30,13 +30,20 @@ use Rattle.validation.specs.Groups.Inside.{Inside}
 use Rattle.validation.specs.Groups.Wrong.{StoresAnother, IsNotDefinitionAt}
 use Rattle.validation.specs.Stored.Definitions.{allots, group_stores, is_stored, stored_in}
 use Rattle.lower.specs.declared.lowering.Lowered.{Lowered}
-use Rattle.lower.specs.Stored.{StoredText, stored_functions, flags}
-use Rattle.lower.specs.Regions.{bodies_from, skeleton_of}
-use Rattle.lower.specs.Blocks.{dimensions_of, claimed_region}
-use Rattle.lower.specs.Fetches.{Entry, FetchText, loads_from, with_fetches}
-use Rattle.lower.specs.Placed.{PlacedText, AreFetchedBy, IsMixedBody, with_fetched, begun, names_over, group_owner, picked, numbered}
+use Rattle.sched.specs.Stored.{StoredText}
+use Rattle.lower.specs.Stored.{stored_functions}
+use Rattle.blocks.specs.Stored.{flags}
+use Rattle.regions.specs.Regions.{bodies_from, skeleton_of}
+use Rattle.blocks.specs.Blocks.{dimensions_of, claimed_region}
+use Rattle.sched.specs.Fetches.{Entry}
+use Rattle.blocks.specs.Fetches.{FetchText, with_fetches}
+use Rattle.lower.specs.Fetches.{loads_from}
+use Rattle.sched.specs.Placed.{PlacedText}
+use Rattle.lower.specs.Placed.{AreFetchedBy, IsMixedBody, with_fetched, picked, numbered}
+use Rattle.blocks.specs.Placed.{begun, names_over, group_owner}
 use Rattle.lower.specs.Computed.{AreAllFound}
-use Rattle.lower.specs.Groups.{rooted, HasBody, HasGroups, IsOver, IsBodyBy}
+use Rattle.lower.specs.Groups.{rooted, HasBody, HasGroups, IsBodyBy}
+use Rattle.blocks.specs.Groups.{IsOver}
 use Rattle.completeness.specs.Laws.{NamesNoLoad}
 use Rattle.completeness.specs.Inside.{AreAllStored, AllDefinitionsAreStored}
 use Rattle.completeness.proofs.Laid.{subjects, found}

@@ -11,7 +11,9 @@ use Rattle.sched.specs.Subjects.{subject_said, places}
 use Rattle.sched.specs.Legal.{said, loops_after, loops_of, IsFollowed, IsLegal}
 use Rattle.sched.proofs.Telling.{Told, text_told, broken_now}
 use Rattle.sched.proofs.Scheduling.{get_map, ArePlaced, starts_placed, all_placed}
-use Rattle.lower.specs.Stored.{StoredText, stored_by, stored_among, stored_functions, flags}
+use Rattle.sched.specs.Stored.{StoredText}
+use Rattle.blocks.specs.Stored.{stored_by, stored_among, flags}
+use Rattle.lower.specs.Stored.{stored_functions}
 
 -- ---- names
 

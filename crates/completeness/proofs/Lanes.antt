@@ -25,7 +25,7 @@ use Rattle.sched.proofs.Passing.{IsClosed}
 use Rattle.sched.proofs.Closing.{Begun, Joined, next_of}
 use Rattle.sched.proofs.Looping.{no_grid}
 use Rattle.soundness.proofs.Refines.{eq_refl}
-use Rattle.lower.proofs.Laying.{bound, same}
+use Rattle.blocks.proofs.Laying.{bound, same}
 use Rattle.completeness.proofs.Only.{Only}
 use Rattle.completeness.proofs.Halves.{IsInner, AreOthers, by_whole, by_inner, inner_outer}
 

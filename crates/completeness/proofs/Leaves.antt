@@ -21,10 +21,10 @@ use Rattle.validation.specs.declared.stored.lines.GroupLines.{GroupLines}
 use Rattle.validation.specs.Groups.Lines.{Here, in_loop, inside, before, symbols_after, buffers_after, after, is_empty, lines_from, start}
 use Rattle.validation.specs.Groups.Inside.{Inside, InsideOne}
 use Rattle.validation.specs.Groups.Wrong.{NamesUnknown}
-use Rattle.lower.specs.Stored.{FormulaText, StoredText}
-use Rattle.lower.specs.Loading.{Loads}
-use Rattle.lower.specs.Bodies.{IsStore, AreNests}
-use Rattle.lower.specs.Fetches.{FetchText, with_fetches}
+use Rattle.sched.specs.Stored.{FormulaText, StoredText}
+use Rattle.sched.specs.Loading.{Loads}
+use Rattle.blocks.specs.Bodies.{IsStore, AreNests}
+use Rattle.blocks.specs.Fetches.{FetchText, with_fetches}
 use Rattle.completeness.specs.Laws.{IsUnknownInside}
 use Rattle.completeness.proofs.Standing.{With, past_turns, past_named, past_tested, none_bound}
 use Rattle.completeness.proofs.Standing.{Here as Bound}

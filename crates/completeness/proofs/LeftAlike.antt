@@ -19,11 +19,11 @@ use Rattle.meaning.specs.Conditions.{AreDistinct}
 use Rattle.sched.specs.declared.nest.Turning.{Turning}
 use Rattle.sched.specs.Skeleton.{BodyText, NestText, SkeletonText, variables_at, ranges_at}
 use Rattle.sched.specs.Standing.{◌>>=◌, alone}
-use Rattle.lower.specs.Called.{called}
-use Rattle.lower.specs.Stored.{FormulaText, StoredText, left_at}
-use Rattle.lower.specs.Around.{AroundText, exactly, interval_in, form_span, coordinate_span, range_names, ranges_of, head_scope, bind_steps, left_around, around, coordinates_behind}
-use Rattle.lower.specs.Regions.{ends_of}
-use Rattle.lower.proofs.Laying.{bound, same}
+use Rattle.sched.specs.Called.{called}
+use Rattle.sched.specs.Stored.{FormulaText, StoredText, left_at}
+use Rattle.sched.specs.Around.{AroundText, exactly, interval_in, form_span, coordinate_span, range_names, ranges_of, head_scope, bind_steps, left_around, around, coordinates_behind}
+use Rattle.regions.specs.Regions.{ends_of}
+use Rattle.blocks.proofs.Laying.{bound, same}
 use Rattle.completeness.proofs.Written.{variables_long}
 use Rattle.completeness.proofs.RangeLoops.{HasRanges, alones, somes, loop_of, slice_none}
 use Rattle.completeness.proofs.Renumbered.{turned, spanned, spans_of, interval_ren, freed_ends_ren}

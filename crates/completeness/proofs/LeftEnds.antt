@@ -12,11 +12,12 @@ use Rattle.algo.specs.Scoping.Standing.{Written}
 use Rattle.sched.specs.declared.numbers.Extent.{Extent}
 use Rattle.sched.specs.Skeleton.{NestText, SkeletonText}
 use Rattle.sched.specs.Standing.{◌>>=◌}
-use Rattle.lower.specs.Stored.{FormulaText, StoredText, calls_in}
-use Rattle.lower.specs.Around.{AroundText, head_scope, around}
-use Rattle.lower.specs.Regions.{LaidText, are_within, counts, add_index, add_counted, add_call, add_calls, add_place, add_left, add_own, add_all_own, region_of, skeleton_of, same_extent}
-use Rattle.lower.specs.Regions.{same_region, over, closed, laid_over, reach_of, laid_by, laid_within, laid_functions}
-use Rattle.lower.proofs.Laying.{bound, same}
+use Rattle.sched.specs.Stored.{FormulaText, StoredText, calls_in}
+use Rattle.sched.specs.Around.{AroundText, head_scope, around}
+use Rattle.sched.specs.Regions.{LaidText, counts}
+use Rattle.regions.specs.Regions.{are_within, add_index, add_counted, add_call, add_calls, add_place, add_left, add_own, add_all_own, region_of, skeleton_of, same_extent}
+use Rattle.regions.specs.Regions.{same_region, over, closed, laid_over, reach_of, laid_by, laid_within, laid_functions}
+use Rattle.blocks.proofs.Laying.{bound, same}
 use Rattle.lower.proofs.Reached.{Grows, after, if_some, region_length}
 use Rattle.completeness.proofs.Standing.{Taken}
 use Rattle.completeness.specs.Placed.{index_at}

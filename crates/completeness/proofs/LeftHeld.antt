@@ -33,16 +33,20 @@ use Rattle.sched.specs.Skeleton.{BodyText, NestText, SkeletonText, is_missing, v
 use Rattle.sched.specs.Standing.{form_named}
 use Rattle.sched.proofs.Arriving.{skeletal}
 use Rattle.lower.specs.declared.lowering.Lowered.{Lowered}
-use Rattle.lower.specs.Called.{called}
-use Rattle.lower.specs.Stored.{FormulaText, StoredText, left_at, calls_in, formulas_put, stored_functions, has_large}
-use Rattle.lower.specs.Around.{AroundText, interval_in, form_span, coordinate_span, range_names, ranges_of, names_with, head_scope, left_around, around, coordinates_behind}
-use Rattle.lower.specs.Faults.{are_whole, region_fault}
-use Rattle.lower.specs.Regions.{LaidText, counts, ends_of, symbols_from, missing_from, bodies_from, skeleton_of, laid_functions}
-use Rattle.lower.specs.Bounded.{whole}
+use Rattle.sched.specs.Called.{called}
+use Rattle.sched.specs.Stored.{FormulaText, StoredText, left_at, calls_in}
+use Rattle.blocks.specs.Stored.{formulas_put}
+use Rattle.lower.specs.Stored.{stored_functions, has_large}
+use Rattle.sched.specs.Around.{AroundText, interval_in, form_span, coordinate_span, range_names, ranges_of, names_with, head_scope, left_around, around, coordinates_behind}
+use Rattle.regions.specs.Faults.{are_whole}
+use Rattle.lower.specs.Faults.{region_fault}
+use Rattle.sched.specs.Regions.{LaidText, counts, symbols_from}
+use Rattle.regions.specs.Regions.{ends_of, missing_from, bodies_from, skeleton_of, laid_functions}
+use Rattle.sched.specs.Bounded.{whole}
 use Rattle.lower.specs.Groups.{HasGroups}
 use Rattle.lower.specs.Owning.{IsExtent}
 use Rattle.lower.proofs.Extents.{region_is}
-use Rattle.lower.proofs.Laying.{bound, same}
+use Rattle.blocks.proofs.Laying.{bound, same}
 use Rattle.completeness.specs.Placed.{IsSettled, ArePlaced, GoesOn, AreLeftsHeld, index_at, AreOwnHeld, IsOverRanges}
 use Rattle.completeness.proofs.HeldWhole.{HasIndex}
 use Rattle.completeness.proofs.LoadedTerms.{IsTypedCall}
@@ -66,7 +70,7 @@ use Rattle.completeness.proofs.CallEnds.{IsIndexEnded}
 use Rattle.meaning.proofs.Calls.{none_is_input}
 use Rattle.meaning.proofs.Cases.{name_differs}
 use Rattle.headline.proofs.Lists.{at_map}
-use Rattle.lower.specs.Bounded.{is_on_input, is_in_region, is_call_bounded}
+use Rattle.blocks.specs.Bounded.{is_on_input, is_in_region, is_call_bounded}
 use Rattle.lower.specs.Faults.{no_totals, calls_of_large}
 use Rattle.completeness.proofs.Boxes.{AreBoxes}
 use Rattle.completeness.proofs.RegionBounds.{root_bounded, calls_bounded}

@@ -18,11 +18,11 @@ use Rattle.bounds.proofs.IntervalSound.{contains}
 use Rattle.meaning.specs.Algorithm.{Algorithm}
 use Rattle.meaning.specs.Names.{is_among}
 use Rattle.meaning.specs.Conditions.{AreDistinct}
-use Rattle.lower.specs.Called.{called}
-use Rattle.lower.specs.Stored.{FormulaText, left_at}
-use Rattle.lower.specs.Around.{AroundText, exactly, interval_in, form_span, coordinate_span, coordinates_behind}
-use Rattle.lower.specs.Regions.{ends_of, are_within}
-use Rattle.lower.proofs.Laying.{bound, same}
+use Rattle.sched.specs.Called.{called}
+use Rattle.sched.specs.Stored.{FormulaText, left_at}
+use Rattle.sched.specs.Around.{AroundText, exactly, interval_in, form_span, coordinate_span, coordinates_behind}
+use Rattle.regions.specs.Regions.{ends_of, are_within}
+use Rattle.blocks.proofs.Laying.{bound, same}
 use Rattle.completeness.proofs.Standing.{Taken}
 use Rattle.completeness.proofs.Boxes.{AreBoxes}
 use Rattle.completeness.proofs.FirstNumbers.{ends_hold, firsts, firsts_hold, number_at, index_near, behind, at_form, between, named, named_index, named_at, same_lists, zero_is, nothing}

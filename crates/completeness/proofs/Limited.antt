@@ -30,10 +30,10 @@ use Rattle.sched.proofs.Rooting.{all_both, all_reverse, all_by_variable}
 use Rattle.sched.proofs.Standings.{all_more, found_all, Begins, stood, waits, plainly, shifted, Puts, freely, by_loop, by_guard, by_test, Joins, stays, puts}
 use Rattle.sched.proofs.Closing.{next_of}
 use Rattle.lower.specs.Owning.{IsExtent}
-use Rattle.lower.specs.Regions.{turnings, bodies_from}
-use Rattle.lower.specs.Around.{ranges_of}
-use Rattle.lower.specs.Stored.{FormulaText}
-use Rattle.lower.proofs.Laying.{bound, same}
+use Rattle.regions.specs.Regions.{turnings, bodies_from}
+use Rattle.sched.specs.Around.{ranges_of}
+use Rattle.sched.specs.Stored.{FormulaText}
+use Rattle.blocks.proofs.Laying.{bound, same}
 use Rattle.completeness.proofs.Standing.{Within, at_grid}
 
 -- ---- forms

@@ -32,16 +32,22 @@ use Rattle.validation.specs.Groups.Inside.{Inside, Begins}
 use Rattle.validation.specs.Groups.Wrong.{IndexIsWide, HasWide}
 use Rattle.validation.proofs.Wide.{wide_form}
 use Rattle.lower.specs.declared.lowering.Lowered.{Lowered}
-use Rattle.lower.specs.Stored.{FormulaText, StoredText, stored_by, stored_functions, flags, has_large}
-use Rattle.lower.specs.Regions.{bodies_from}
-use Rattle.lower.specs.Bounded.{whole}
+use Rattle.sched.specs.Stored.{FormulaText, StoredText}
+use Rattle.blocks.specs.Stored.{stored_by, flags}
+use Rattle.lower.specs.Stored.{stored_functions, has_large}
+use Rattle.regions.specs.Regions.{bodies_from}
+use Rattle.sched.specs.Bounded.{whole}
 use Rattle.lower.specs.Owning.{IsExtent}
-use Rattle.lower.specs.Faults.{are_whole, region_fault}
-use Rattle.lower.specs.Around.{ranges_of, names_with}
-use Rattle.lower.specs.Loading.{Loads}
-use Rattle.lower.specs.Blocks.{dimensions_of, own_places}
-use Rattle.lower.specs.Bodies.{first_left, other_lefts, IsIndex, AreCoordinates, last_claim, IsStore, AreNests}
-use Rattle.lower.specs.Fetches.{Entry, FetchText, with_fetches}
+use Rattle.regions.specs.Faults.{are_whole}
+use Rattle.lower.specs.Faults.{region_fault}
+use Rattle.sched.specs.Around.{ranges_of, names_with}
+use Rattle.sched.specs.Loading.{Loads}
+use Rattle.blocks.specs.Blocks.{dimensions_of, own_places}
+use Rattle.sched.specs.Bodies.{first_left, other_lefts}
+use Rattle.blocks.specs.Bodies.{IsIndex, AreCoordinates, IsStore, AreNests}
+use Rattle.lower.specs.Bodies.{last_claim}
+use Rattle.sched.specs.Fetches.{Entry}
+use Rattle.blocks.specs.Fetches.{FetchText, with_fetches}
 use Rattle.lower.specs.Groups.{HasBody, HasGroups}
 use Rattle.lower.proofs.Extents.{region_is}
 use Rattle.completeness.specs.Laws.{IsNestLine, IsWideInside, GroupFormsAreWithin, NestFormsAreWithin}

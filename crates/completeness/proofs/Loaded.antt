@@ -9,9 +9,12 @@ use Rattle.tree.specs.Term.{Term}
 use Rattle.meaning.specs.Names.{same_name}
 use Rattle.soundness.proofs.Refines.{name_refl}
 use Rattle.algo.specs.Scoping.Standing.{Written, calls_of}
-use Rattle.lower.specs.Stored.{FormulaText, calls_left, calls_in, are_calls_of, some_calls}
-use Rattle.lower.specs.Loading.{Loads, last_of}
-use Rattle.lower.specs.Fetches.{Entry, FetchText, Calls, is_fetched, fetched_if, fetched_groups, AreFetched, loads_from}
+use Rattle.sched.specs.Stored.{FormulaText, calls_left, calls_in, are_calls_of}
+use Rattle.regions.specs.Stored.{some_calls}
+use Rattle.sched.specs.Loading.{Loads, last_of}
+use Rattle.sched.specs.Fetches.{Entry}
+use Rattle.blocks.specs.Fetches.{FetchText}
+use Rattle.lower.specs.Fetches.{Calls, is_fetched, fetched_if, fetched_groups, AreFetched, loads_from}
 
 -- ---- loads by name
 

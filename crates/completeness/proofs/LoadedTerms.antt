@@ -18,7 +18,7 @@ use Rattle.lin.specs.declared.span.Span1.{Span1}
 use Rattle.bounds.specs.Spans.{exactly, range_of, fitted, difference_of, minimum_of, maximum_of, choice_of, binary_of}
 use Rattle.bounds.specs.Interval.{literal_of, both, interval}
 use Rattle.algo.specs.Scoping.Standing.{Written, calls_of, calls_of_test, calls_of_all}
-use Rattle.lower.specs.Loading.{Loads, loaded_name, as_load}
+use Rattle.sched.specs.Loading.{Loads, loaded_name, as_load}
 
 -- ---- types, shapes and bounds
 

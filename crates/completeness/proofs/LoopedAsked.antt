@@ -11,15 +11,18 @@ use Rattle.meaning.specs.Algorithm.{Algorithm}
 use Rattle.sched.specs.Standing.{◌>>=◌}
 use Rattle.sched.specs.Schedule.{Schedule}
 use Rattle.lower.specs.declared.lowering.Lowered.{Lowered}
-use Rattle.lower.specs.Stored.{FormulaText, StoredText, stored_functions}
+use Rattle.sched.specs.Stored.{FormulaText, StoredText}
+use Rattle.lower.specs.Stored.{stored_functions}
 use Rattle.lower.specs.Owning.{IsExtent}
-use Rattle.lower.specs.Regions.{LaidText, count_of, is_i32, are_within, extent_between, may_have, extent_of, region_of, hull, widen, ends_of, unreached, add_output, laid_over, laid_functions}
-use Rattle.lower.specs.Taken.{SiteText}
-use Rattle.lower.specs.Fetches.{Entry}
-use Rattle.lower.specs.Placed.{PlacedText}
-use Rattle.lower.specs.Asked.{add_ends, add_calls, add_sites, sites_in, add_group, add_groups, reach_in, laid_again, laid_anew, laid_each, are_same}
+use Rattle.sched.specs.Regions.{LaidText, count_of}
+use Rattle.regions.specs.Regions.{is_i32, are_within, extent_between, may_have, extent_of, region_of, hull, widen, ends_of, unreached, add_output, laid_over, laid_functions}
+use Rattle.sched.specs.Taken.{SiteText}
+use Rattle.sched.specs.Fetches.{Entry}
+use Rattle.sched.specs.Placed.{PlacedText}
+use Rattle.regions.specs.Asked.{add_ends, add_calls, add_sites, sites_in, add_group, add_groups}
+use Rattle.lower.specs.Asked.{reach_in, laid_again, laid_anew, laid_each, are_same}
 use Rattle.lower.specs.Groups.{Come, asked, rounds, rooted, AreGroupsMade}
-use Rattle.lower.proofs.Laying.{bound, same}
+use Rattle.blocks.proofs.Laying.{bound, same}
 use Rattle.lower.proofs.Reached.{grows_output, laid_found, region_length}
 use Rattle.lower.proofs.Extents.{region_is}
 use Rattle.completeness.specs.Looped.{IsRegion, IsRegionIf, AreRegions}

@@ -31,18 +31,26 @@ use Rattle.validation.specs.Groups.Lines.{Here, start}
 use Rattle.validation.specs.Groups.Inside.{Inside, Begins}
 use Rattle.validation.specs.Groups.Wrong.{IndexIsWide}
 use Rattle.lower.specs.declared.lowering.Lowered.{Lowered}
-use Rattle.lower.specs.Stored.{FormulaText, StoredText, stored_functions, flags}
-use Rattle.lower.specs.Regions.{LaidText, bodies_from}
-use Rattle.lower.specs.Around.{ranges_of}
-use Rattle.lower.specs.Loading.{Loads, as_load}
-use Rattle.lower.specs.Blocks.{dimensions_of, claimed_region, own_places}
-use Rattle.lower.specs.Bodies.{first_left, other_lefts, last_claim, IsBody}
-use Rattle.lower.specs.Renamed.{Pairs, value_in, symbol, terms_renamed, form_renamed, behind, forms_renamed, span_renamed, at_renamed, coordinates_renamed, places_renamed, step_renamed}
-use Rattle.lower.specs.Fetches.{Entry, with_fetches}
-use Rattle.lower.specs.Placed.{PlacedText, index_by, coordinates_by, around, group_owner, names_over, with_fetched, begun, IsMixedBody}
+use Rattle.sched.specs.Stored.{FormulaText, StoredText}
+use Rattle.lower.specs.Stored.{stored_functions}
+use Rattle.blocks.specs.Stored.{flags}
+use Rattle.sched.specs.Regions.{LaidText}
+use Rattle.regions.specs.Regions.{bodies_from}
+use Rattle.sched.specs.Around.{ranges_of}
+use Rattle.sched.specs.Loading.{Loads, as_load}
+use Rattle.blocks.specs.Blocks.{dimensions_of, claimed_region, own_places}
+use Rattle.sched.specs.Bodies.{first_left, other_lefts}
+use Rattle.lower.specs.Bodies.{last_claim, IsBody}
+use Rattle.sched.specs.Renamed.{Pairs, value_in, symbol, terms_renamed, form_renamed, behind, forms_renamed, span_renamed, at_renamed, coordinates_renamed, step_renamed}
+use Rattle.blocks.specs.Renamed.{places_renamed}
+use Rattle.sched.specs.Fetches.{Entry}
+use Rattle.blocks.specs.Fetches.{with_fetches}
+use Rattle.sched.specs.Placed.{PlacedText, index_by, coordinates_by, around}
+use Rattle.blocks.specs.Placed.{group_owner, names_over, begun}
+use Rattle.lower.specs.Placed.{with_fetched, IsMixedBody}
 use Rattle.lower.specs.Computed.{IsComputed}
 use Rattle.lower.specs.Groups.{rooted, IsBodyBy, HasGroups}
-use Rattle.lower.proofs.Laying.{bound, same}
+use Rattle.blocks.proofs.Laying.{bound, same}
 use Rattle.completeness.specs.Laws.{IsNestLine, IsWideInside}
 use Rattle.completeness.specs.Looped.{AreRegions, NestLinesAreWithin, GroupLinesAreWithin}
 use Rattle.completeness.proofs.Laid.{subjects, found, arranged}

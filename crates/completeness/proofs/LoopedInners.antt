@@ -9,15 +9,17 @@ use Rattle.bounds.proofs.ListSound.{all-append}
 use Rattle.meaning.specs.Algorithm.{Algorithm}
 use Rattle.plan.specs.declared.stmt.Places.{Places}
 use Rattle.sched.specs.Skeleton.{NestText}
-use Rattle.lower.specs.Stored.{FormulaText, StoredText}
-use Rattle.lower.specs.Regions.{bodies_from}
-use Rattle.lower.specs.Parted.{kept_region, nests_over}
-use Rattle.lower.specs.Slid.{TrackText, offset, past, add_new, others_from, spare_place, from_symbol, new_region, held_along, sliding_at, HasLater, IsLater, HoldsBy, Holds}
-use Rattle.lower.specs.Fetches.{Entry}
-use Rattle.lower.specs.Placed.{LaterText, PlacedText}
-use Rattle.lower.specs.Demanded.{scope_at}
+use Rattle.sched.specs.Stored.{FormulaText, StoredText}
+use Rattle.regions.specs.Regions.{bodies_from}
+use Rattle.blocks.specs.Parted.{kept_region}
+use Rattle.lower.specs.Parted.{nests_over}
+use Rattle.regions.specs.Slid.{TrackText, offset, past, add_new, others_from, spare_place, from_symbol, new_region}
+use Rattle.lower.specs.Slid.{held_along, sliding_at, HasLater, IsLater, HoldsBy, Holds}
+use Rattle.sched.specs.Fetches.{Entry}
+use Rattle.sched.specs.Placed.{LaterText, PlacedText}
+use Rattle.regions.specs.Demanded.{scope_at}
 use Rattle.lower.specs.Computed.{IsComputed}
-use Rattle.lower.proofs.Laying.{bound, same}
+use Rattle.blocks.proofs.Laying.{bound, same}
 use Rattle.completeness.proofs.Limited.{Limited, AreLimited, LimitedIf, IsBodySmall, alone_limited, combined_limited}
 use Rattle.completeness.proofs.Bounding.{SpanLimited}
 use Rattle.completeness.proofs.LoopedWalk.{NestIs, LaterIs, LaterIsIf, InnerIs}

@@ -27,21 +27,27 @@ use Rattle.sched.specs.Numbers.{numbers_named, whole_numbers, loop_numbers}
 use Rattle.sched.specs.Skeleton.{BodyText, NestText, variables_at, ranges_at, nest_of}
 use Rattle.sched.specs.Standing.{◌>>=◌, StandingText, form_named, alone, is_now, starts_at, innermost}
 use Rattle.sched.proofs.Standings.{all_more}
-use Rattle.lower.specs.Stored.{FormulaText, StoredText}
-use Rattle.lower.specs.Regions.{bodies_from}
-use Rattle.lower.specs.Taken.{shortest}
-use Rattle.lower.specs.Turned.{is_run, range_run, range_runs, steps_of, known_of, are_bounded, add_nests, all_runs as whole_runs, add_run as add_whole_run, add_runs as add_whole_runs}
-use Rattle.lower.specs.Turned.{run_of as whole_run}
-use Rattle.lower.specs.Turned.{nest_of as whole_nest, whole_nests, kind_of}
-use Rattle.lower.specs.Parted.{FrameText, is_variable, forms_if, further_of, half_span, span_of, run_of, add_run, add_runs, all_runs, body_cuts, begun, nest_in, count_of, most_of, add_extents}
-use Rattle.lower.specs.Parted.{is_cut, is_telling, told_among, told_forms, told_span, rounded_cut, rounding, is_behind, lower_of, last_first, let_of, one_of, low_of, last_of, facts_of}
-use Rattle.lower.specs.Parted.{reach_by, reach_told, reach_of, with_even}
-use Rattle.lower.specs.Parted.{reach_at, with_reach, counted_at, reaches_from, counted_one, counted_from, half_reach, half_reaches, kept_of, frame_with, frame_by, frame_of, nest_over}
-use Rattle.lower.specs.Parted.{nests_from, nests_by, nests_over}
-use Rattle.lower.specs.Rounded.{with_block}
-use Rattle.lower.specs.Settled.{picks, tests, tests_if, limited_span, limited, is_known, is_asked, begin_at, begin_over, keep_by_let, keep_by_guard, keep_by, told_form, put_together, join_over, join}
-use Rattle.lower.specs.Settled.{begin, reach_named, is_guarded, enter, is_lanes, settle_by, settle_one, settle, turn, turn_all}
-use Rattle.lower.proofs.Laying.{bound, same}
+use Rattle.sched.specs.Stored.{FormulaText, StoredText}
+use Rattle.regions.specs.Regions.{bodies_from}
+use Rattle.sched.specs.Taken.{shortest}
+use Rattle.sched.specs.Turned.{is_run, range_run, range_runs}
+use Rattle.regions.specs.Turned.{steps_of, known_of, are_bounded, add_nests, all_runs as whole_runs, add_run as add_whole_run, add_runs as add_whole_runs}
+use Rattle.regions.specs.Turned.{run_of as whole_run}
+use Rattle.regions.specs.Turned.{nest_of as whole_nest, whole_nests}
+use Rattle.sched.specs.Turned.{kind_of}
+use Rattle.sched.specs.Parted.{FrameText, is_variable, forms_if, further_of, half_span, span_of, run_of, add_run, add_runs, all_runs, body_cuts, begun, nest_in, count_of, most_of}
+use Rattle.sched.specs.Parted.{add_extents}
+use Rattle.blocks.specs.Parted.{is_cut, told_span, rounded_cut, rounding, is_behind, lower_of, last_first, let_of, one_of, low_of, last_of, facts_of}
+use Rattle.sched.specs.Parted.{is_telling, told_among, told_forms}
+use Rattle.blocks.specs.Parted.{reach_by, reach_told, reach_of, with_even}
+use Rattle.blocks.specs.Parted.{reach_at, with_reach, counted_at, reaches_from, counted_one, counted_from, half_reach, half_reaches, kept_of, frame_with, frame_by, frame_of, nest_over}
+use Rattle.blocks.specs.Parted.{nests_from}
+use Rattle.lower.specs.Parted.{nests_by, nests_over}
+use Rattle.blocks.specs.Rounded.{with_block}
+use Rattle.sched.specs.Settled.{picks, tests, tests_if, limited_span, limited, is_known, is_asked, begin_at, begin_over, keep_by_let, keep_by_guard, keep_by, told_form, put_together}
+use Rattle.sched.specs.Settled.{join_over, join}
+use Rattle.sched.specs.Settled.{begin, reach_named, is_guarded, enter, is_lanes, settle_by, settle_one, settle, turn, turn_all}
+use Rattle.blocks.proofs.Laying.{bound, same}
 use Rattle.completeness.proofs.Limited.{Limited, AreLimited, LimitedIf, IsSmall, IsSized, IsBodySmall, number_limited, combined_limited, alone_limited, named_sized, cut_sized, variables_limited}
 use Rattle.completeness.proofs.Limited.{ranges_limited}
 use Rattle.completeness.proofs.Bounding.{SpanLimited}

@@ -11,19 +11,23 @@ use Rattle.meaning.specs.Algorithm.{Algorithm}
 use Rattle.sched.specs.declared.numbers.Extent.{Extent}
 use Rattle.sched.specs.Skeleton.{NestText}
 use Rattle.sched.specs.Standing.{◌>>=◌}
-use Rattle.lower.specs.declared.spots.Spot.{Spot}
-use Rattle.lower.specs.Stored.{FormulaText, StoredText}
-use Rattle.lower.specs.Bounded.{whole}
+use Rattle.sched.specs.declared.hosts.Spot.{Spot}
+use Rattle.sched.specs.Stored.{FormulaText, StoredText}
+use Rattle.sched.specs.Bounded.{whole}
 use Rattle.lower.specs.Owning.{IsExtent}
-use Rattle.lower.specs.Taken.{SiteText, is_asked, add_site, add_asked, add_sites, freed, needed_span}
-use Rattle.lower.specs.Fetches.{Entry}
-use Rattle.lower.specs.Placed.{LaterText, PlacedText}
-use Rattle.lower.specs.Homes.{host_at}
-use Rattle.lower.specs.Demanded.{scope_over, is_rounded, stands_inside, add_later, add_inner, add_if, add_inside, sites_at, is_scattered, needed_dimension, add_needed, needed_region}
-use Rattle.lower.specs.Slid.{TrackText, is_open, rises, new_from, are_joined, joined, over_loop, with_span, is_split, if_told, freed_region, is_single, held_region, is_repeated, may_hold}
+use Rattle.sched.specs.Taken.{SiteText, freed}
+use Rattle.regions.specs.Taken.{is_asked, add_site, add_asked, add_sites, needed_span}
+use Rattle.sched.specs.Fetches.{Entry}
+use Rattle.sched.specs.Placed.{LaterText, PlacedText}
+use Rattle.regions.specs.Homes.{host_at}
+use Rattle.regions.specs.Demanded.{scope_over, stands_inside, add_later, add_inner, add_if, add_inside, sites_at, is_scattered, needed_dimension, add_needed, needed_region}
+use Rattle.sched.specs.Demanded.{is_rounded}
+use Rattle.regions.specs.Slid.{TrackText, is_open, rises, new_from, are_joined, joined, over_loop, with_span, is_split, if_told, freed_region, held_region, is_repeated}
+use Rattle.sched.specs.Slid.{is_single}
+use Rattle.lower.specs.Slid.{may_hold}
 use Rattle.lower.specs.Slid.{if_held, held_along}
 use Rattle.lower.specs.Slid.{HoldsBy, Holds}
-use Rattle.lower.proofs.Laying.{bound, same}
+use Rattle.blocks.proofs.Laying.{bound, same}
 use Rattle.completeness.proofs.Bounding.{SpanLimited}
 use Rattle.completeness.proofs.Needed.{SiteLimited, one_limited, freed_limited, span_needed, whole_limited}
 use Rattle.completeness.proofs.LoopedLimited.{AreSpans}

@@ -8,8 +8,8 @@ use Rattle.plan.specs.declared.certificate.cert.Claim.{Claim as CodeClaim}
 use Rattle.plan.specs.declared.certificate.cert.Need.{Need}
 use Rattle.plan.specs.declared.certificate.cert.Window.{Window}
 use Rattle.meaning.specs.Algorithm.{Algorithm}
-use Rattle.lower.specs.Fetches.{Entry}
-use Rattle.lower.specs.Placed.{PlacedText}
+use Rattle.sched.specs.Fetches.{Entry}
+use Rattle.sched.specs.Placed.{PlacedText}
 use Rattle.lower.specs.Computed.{IsComputed, AreComputedIf, AreFound, AreAllFound}
 use Rattle.lower.specs.Groups.{IsBodyBy, AreBodiesBy}
 

@@ -13,12 +13,15 @@ use Rattle.sched.specs.Legal.{IsLegal}
 use Rattle.headline.proofs.Lists.{from_map}
 use Rattle.headline.proofs.Members.{got}
 use Rattle.lower.specs.declared.lowering.Lowered.{Lowered}
-use Rattle.lower.specs.Stored.{FormulaText, StoredText, stored_functions}
-use Rattle.lower.specs.Regions.{LaidText, skeleton_of, bodies_from}
-use Rattle.lower.specs.Blocks.{dimensions_of, owned_region}
-use Rattle.lower.specs.Bounded.{whole}
-use Rattle.lower.specs.Fetches.{Entry}
-use Rattle.lower.specs.Groups.{is_same, rooted_if, rooted, grid_over, AreMade, IsOverRegion, AreOverRegions, HasGroups}
+use Rattle.sched.specs.Stored.{FormulaText, StoredText}
+use Rattle.lower.specs.Stored.{stored_functions}
+use Rattle.sched.specs.Regions.{LaidText}
+use Rattle.regions.specs.Regions.{skeleton_of, bodies_from}
+use Rattle.blocks.specs.Blocks.{dimensions_of, owned_region}
+use Rattle.sched.specs.Bounded.{whole}
+use Rattle.sched.specs.Fetches.{Entry}
+use Rattle.lower.specs.Groups.{is_same, rooted_if, rooted, AreMade, IsOverRegion, AreOverRegions, HasGroups}
+use Rattle.blocks.specs.Groups.{grid_over}
 use Rattle.lower.specs.Owning.{has_scattered, IsLaidBy}
 use Rattle.lower.proofs.Grids.{head_of}
 use Rattle.completeness.specs.Parted.{PartsGroup, IsPartedGroup, ArePartedGroups, KeepsInner}

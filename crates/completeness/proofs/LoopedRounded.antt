@@ -18,18 +18,22 @@ use Rattle.sched.specs.declared.schedule.Split.{Split}
 use Rattle.sched.specs.declared.skeleton.Step.TheVariants.{Named}
 use Rattle.sched.specs.Skeleton.{NestText}
 use Rattle.sched.specs.Standing.{◌>>=◌}
-use Rattle.lower.specs.Stored.{FormulaText, StoredText}
-use Rattle.lower.specs.Regions.{bodies_from}
-use Rattle.lower.specs.Around.{bind_steps}
-use Rattle.lower.specs.Blocks.{difference, product, sum}
-use Rattle.lower.specs.Demanded.{is_rounding}
-use Rattle.lower.specs.Parted.{told_span, rounding, nests_over, parted_nests}
-use Rattle.lower.specs.Rounded.{NamesText, next_name, name, name_of_two, RestsText, none_below, rests_from, add_parts, end_of, with_block, count_rests, count_past, count, count_all, counted, tally_by}
-use Rattle.lower.specs.Rounded.{tally_of, run_over, counted_run, counted_by, count_of, alone_run, moved_if, told_run, is_counted, run_if, run_in, rounding_of, run_by, run_at, BegunText}
-use Rattle.lower.specs.Rounded.{unnamed, with_run}
-use Rattle.lower.specs.Rounded.{runs_from, with_lets, named_over, LainText, calls_itself, is_plain, lain_plainly, or_lain, is_allowed, lain_if, lain_behind, lain_named, lain_rounded}
+use Rattle.sched.specs.Stored.{FormulaText, StoredText}
+use Rattle.regions.specs.Regions.{bodies_from}
+use Rattle.sched.specs.Around.{bind_steps}
+use Rattle.sched.specs.Blocks.{difference}
+use Rattle.blocks.specs.Blocks.{product, sum}
+use Rattle.sched.specs.Demanded.{is_rounding}
+use Rattle.blocks.specs.Parted.{told_span, rounding}
+use Rattle.lower.specs.Parted.{nests_over, parted_nests}
+use Rattle.blocks.specs.Rounded.{NamesText, next_name, name, name_of_two, RestsText, none_below, rests_from, add_parts, end_of, with_block, count_rests, count_past, count, count_all}
+use Rattle.blocks.specs.Rounded.{counted, tally_by}
+use Rattle.blocks.specs.Rounded.{tally_of, run_over, counted_run, counted_by, count_of, alone_run, moved_if, told_run, is_counted, run_if, run_in, rounding_of, run_by, run_at, BegunText}
+use Rattle.blocks.specs.Rounded.{unnamed, with_run}
+use Rattle.blocks.specs.Rounded.{runs_from, with_lets, named_over, calls_itself, is_plain, is_allowed}
+use Rattle.lower.specs.Rounded.{LainText, lain_plainly, or_lain, lain_if, lain_behind, lain_named, lain_rounded}
 use Rattle.lower.specs.Rounded.{lain_over, lain_kept}
-use Rattle.lower.proofs.Laying.{bound, same}
+use Rattle.blocks.proofs.Laying.{bound, same}
 use Rattle.completeness.proofs.Limited.{Limited, AreLimited, IsBodySmall, number_limited, combined_limited, alone_limited}
 use Rattle.completeness.proofs.Bounding.{SpanLimited}
 use Rattle.completeness.proofs.LoopedLimited.{Blocks, CountedFits, StepFits, StepsFit, NestFits, AreSpans, told_limited, parted_fit, over_fit}

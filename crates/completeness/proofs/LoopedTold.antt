@@ -10,20 +10,23 @@ use Rattle.meaning.specs.Algorithm.{Algorithm}
 use Rattle.sched.specs.declared.numbers.Extent.{Extent}
 use Rattle.sched.specs.Skeleton.{NestText}
 use Rattle.sched.specs.Standing.{◌>>=◌}
-use Rattle.lower.specs.declared.spots.Spot.{Spot}
-use Rattle.lower.specs.Stored.{FormulaText, StoredText}
-use Rattle.lower.specs.Bounded.{whole}
+use Rattle.sched.specs.declared.hosts.Spot.{Spot}
+use Rattle.sched.specs.Stored.{FormulaText, StoredText}
+use Rattle.sched.specs.Bounded.{whole}
 use Rattle.lower.specs.Owning.{IsExtent}
-use Rattle.lower.specs.Taken.{SiteText, add_sites}
-use Rattle.lower.specs.Fetches.{Entry}
-use Rattle.lower.specs.Placed.{LaterText, PlacedText}
-use Rattle.lower.specs.Homes.{host_at}
-use Rattle.lower.specs.Demanded.{scope_at, scope_over, is_rounded, stands_inside, needed_region, are_inside, better, add_better}
-use Rattle.lower.specs.Guarded.{told_nests, region_over, add_told_sites, add_told_later, add_told_inner, add_told_if, add_told_inside, told_sites_at, told_region, with_told, kept}
+use Rattle.sched.specs.Taken.{SiteText}
+use Rattle.regions.specs.Taken.{add_sites}
+use Rattle.sched.specs.Fetches.{Entry}
+use Rattle.sched.specs.Placed.{LaterText, PlacedText}
+use Rattle.regions.specs.Homes.{host_at}
+use Rattle.regions.specs.Demanded.{scope_at, scope_over, stands_inside, needed_region, are_inside, better, add_better}
+use Rattle.sched.specs.Demanded.{is_rounded}
+use Rattle.regions.specs.Guarded.{told_nests, region_over, add_told_sites, add_told_later, add_told_inner, add_told_if, add_told_inside, told_sites_at, with_told}
+use Rattle.lower.specs.Guarded.{told_region, kept}
 use Rattle.lower.specs.Guarded.{kept_or_told, needed_at}
 use Rattle.lower.specs.Slid.{sliding_at}
 use Rattle.lower.specs.Computed.{IsComputed}
-use Rattle.lower.proofs.Laying.{bound, same}
+use Rattle.blocks.proofs.Laying.{bound, same}
 use Rattle.completeness.proofs.Bounding.{SpanLimited}
 use Rattle.completeness.proofs.LoopedLimited.{AreSpans}
 use Rattle.completeness.proofs.LoopedNeeds.{SitesLimited, asked_limited, place_limited, region_limited, held_limited}

@@ -13,17 +13,21 @@ use Rattle.sched.specs.declared.skeleton.Step.TheVariants.{Named}
 use Rattle.sched.specs.Skeleton.{NestText}
 use Rattle.sched.specs.Standing.{◌>>=◌}
 use Rattle.headline.proofs.Members.{got}
-use Rattle.lower.specs.declared.spots.Host.TheVariants.{Inner as Inside, Later as Anew}
-use Rattle.lower.specs.declared.spots.Spot.{Spot}
-use Rattle.lower.specs.Bodies.{own_lines}
-use Rattle.lower.specs.Loading.{Loads, as_load}
-use Rattle.lower.specs.Around.{names_with}
-use Rattle.lower.specs.Renamed.{Pairs, value_in, places_renamed, step_renamed, coordinates_renamed}
-use Rattle.lower.specs.Placed.{LaterText, PlacedText, OwnerText, SoFar, Made, Nests, nothing, both, with_lines, with_symbol, with_name, with_loads, bound_by, around, coordinates_by}
-use Rattle.lower.specs.Placed.{store_by, store_in, stored, claimed, seated}
-use Rattle.lower.specs.Placed.{same_spot, buffer_at, buffers_at, own_buffer, function_at, functions_at, numbers_down, all_at, spot, step_in, walk, walk_apart, nests_from, lets, owner, all_turns}
-use Rattle.lower.specs.Placed.{let_count, held, arm, arms, first_lets, first_and_later, sliding_turns, turns, computed, over_grid, group_nests}
-use Rattle.lower.proofs.Laying.{bound, same}
+use Rattle.sched.specs.declared.hosts.Host.TheVariants.{Inner as Inside, Later as Anew}
+use Rattle.sched.specs.declared.hosts.Spot.{Spot}
+use Rattle.blocks.specs.Bodies.{own_lines}
+use Rattle.sched.specs.Loading.{Loads, as_load}
+use Rattle.sched.specs.Around.{names_with}
+use Rattle.sched.specs.Renamed.{Pairs, value_in, step_renamed, coordinates_renamed}
+use Rattle.blocks.specs.Renamed.{places_renamed}
+use Rattle.sched.specs.Placed.{LaterText, PlacedText, OwnerText, SoFar, Made, with_lines, with_symbol, with_name, bound_by, around, coordinates_by}
+use Rattle.blocks.specs.Placed.{Nests, nothing, both, with_loads}
+use Rattle.sched.specs.Placed.{store_by, store_in, stored, claimed}
+use Rattle.blocks.specs.Placed.{seated}
+use Rattle.blocks.specs.Placed.{same_spot, buffer_at, buffers_at, own_buffer, function_at, functions_at, numbers_down, all_at, step_in, walk, walk_apart, nests_from, owner, all_turns}
+use Rattle.sched.specs.Placed.{spot, lets}
+use Rattle.blocks.specs.Placed.{let_count, held, arm, arms, first_lets, first_and_later, sliding_turns, turns, computed, over_grid, group_nests}
+use Rattle.blocks.proofs.Laying.{bound, same}
 use Rattle.completeness.proofs.Unlike.{Clear, ClearAll, joined_clear}
 
 -- ---- parts of lists

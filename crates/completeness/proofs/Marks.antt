@@ -22,13 +22,18 @@ use Rattle.sched.specs.Runs.{lines_to}
 use Rattle.sched.specs.Skeleton.{NestText}
 use Rattle.validation.specs.Stored.Definitions.{allots, block_allots, group_stores, is_stored, stored_in}
 use Rattle.lower.specs.declared.lowering.Lowered.{Lowered}
-use Rattle.lower.specs.Stored.{FormulaText, StoredText, stored_by, stored_among, stored_functions, flags, has_large}
-use Rattle.lower.specs.Faults.{are_whole, region_fault}
-use Rattle.lower.specs.Loading.{Loads}
-use Rattle.lower.specs.Around.{grid_scope}
-use Rattle.lower.specs.Taken.{sites_of}
-use Rattle.lower.specs.Bodies.{IsStore, AreNests}
-use Rattle.lower.specs.Fetches.{Entry, FetchText, fetched_groups, with_fetches}
+use Rattle.sched.specs.Stored.{FormulaText, StoredText}
+use Rattle.blocks.specs.Stored.{stored_by, stored_among, flags}
+use Rattle.lower.specs.Stored.{stored_functions, has_large}
+use Rattle.regions.specs.Faults.{are_whole}
+use Rattle.lower.specs.Faults.{region_fault}
+use Rattle.sched.specs.Loading.{Loads}
+use Rattle.sched.specs.Around.{grid_scope}
+use Rattle.regions.specs.Taken.{sites_of}
+use Rattle.blocks.specs.Bodies.{IsStore, AreNests}
+use Rattle.sched.specs.Fetches.{Entry}
+use Rattle.blocks.specs.Fetches.{FetchText, with_fetches}
+use Rattle.lower.specs.Fetches.{fetched_groups}
 use Rattle.lower.specs.Groups.{HasGroups}
 use Rattle.completeness.proofs.Laid.{subjects, found, stored_is}
 use Rattle.completeness.proofs.Bodies.{other_at, entry_at, fetch_at, body_at}

@@ -13,8 +13,8 @@ use Rattle.meaning.proofs.Keeps.{same_count}
 use Rattle.soundness.proofs.Refines.{name_refl}
 use Rattle.algo.specs.Scoping.Standing.{Written, calls_of, calls_of_test, calls_of_all}
 use Rattle.validation.specs.Groups.Wrong.{Mentions, TestMentions, SomeMentions}
-use Rattle.lower.specs.Stored.{are_calls_of}
-use Rattle.lower.specs.Loading.{Loads, loaded_name, as_load}
+use Rattle.sched.specs.Stored.{are_calls_of}
+use Rattle.sched.specs.Loading.{Loads, loaded_name, as_load}
 
 -- ---- typed expressions
 

@@ -19,13 +19,13 @@ use Rattle.lin.specs.Spans.{IsInSpan}
 use Rattle.lin.proofs.Soundness.{at_most-holds}
 use Rattle.std.proofs.lemmas.List.Elements.{recursion_from_All}
 use Rattle.sched.specs.declared.numbers.Extent.{Extent}
-use Rattle.lower.specs.Bounded.{whole}
+use Rattle.sched.specs.Bounded.{whole}
 use Rattle.lower.specs.Owning.{IsExtent}
 use Rattle.completeness.specs.Placed.{GoesOn}
 use Rattle.completeness.proofs.RegionBounds.{IsEnded}
 use Rattle.completeness.proofs.FirstNumbers.{first_of, firsts, firsts_hold}
 use Rattle.soundness.specs.Shown.{raised}
-use Rattle.lower.proofs.Laying.{same}
+use Rattle.blocks.proofs.Laying.{same}
 use Rattle.soundness.proofs.Refines.{and_parts}
 use Rattle.completeness.proofs.TakenSites.{Has}
 use Rattle.completeness.proofs.SelfBounds.{still}

@@ -15,11 +15,12 @@ use Rattle.sched.specs.declared.nest.Turning.{Turning}
 use Rattle.sched.specs.Numbers.{numbers_named}
 use Rattle.sched.specs.Standing.{◌>>=◌}
 use Rattle.sched.specs.Skeleton.{loop_turning}
-use Rattle.lower.specs.Stored.{FormulaText, StoredText}
-use Rattle.lower.specs.Faults.{is_whole, is_homeless, are_whole}
-use Rattle.lower.specs.Around.{grid_symbol}
-use Rattle.lower.specs.Regions.{LaidText, extent_between, may_have, extent_of, region_of, reach_of, laid_over, laid_by, laid_within, laid_functions, are_within}
-use Rattle.lower.proofs.Laying.{bound, same}
+use Rattle.sched.specs.Stored.{FormulaText, StoredText}
+use Rattle.regions.specs.Faults.{is_whole, is_homeless, are_whole}
+use Rattle.sched.specs.Around.{grid_symbol}
+use Rattle.sched.specs.Regions.{LaidText}
+use Rattle.regions.specs.Regions.{extent_between, may_have, extent_of, region_of, reach_of, laid_over, laid_by, laid_within, laid_functions, are_within}
+use Rattle.blocks.proofs.Laying.{bound, same}
 use Rattle.lower.proofs.Reached.{laid_found}
 use Rattle.completeness.proofs.Standing.{Taken}
 use Rattle.completeness.proofs.Boxes.{IsBox, weight_of, both_under}

@@ -34,16 +34,21 @@ use Rattle.sched.specs.Standing.{form_named, counted_from, has_rest}
 use Rattle.sched.specs.Skeleton.{NestText, SkeletonText, grid_forms}
 use Rattle.sched.proofs.Standings.{found_all}
 use Rattle.lower.specs.declared.lowering.Lowered.{Lowered}
-use Rattle.lower.specs.Stored.{FormulaText, StoredText, stored_functions, has_large}
-use Rattle.lower.specs.Around.{grid_scope}
-use Rattle.lower.specs.Faults.{are_whole, region_fault}
+use Rattle.sched.specs.Stored.{FormulaText, StoredText}
+use Rattle.lower.specs.Stored.{stored_functions, has_large}
+use Rattle.sched.specs.Around.{grid_scope}
+use Rattle.regions.specs.Faults.{are_whole}
+use Rattle.lower.specs.Faults.{region_fault}
 use Rattle.lower.specs.Owning.{IsLaidBy, IsExtent}
-use Rattle.lower.specs.Loading.{Loads}
-use Rattle.lower.specs.Blocks.{LayText, Whole, difference, is_parallel_named, alone_by, lay_over, dimension_by, dimension_of, dimensions_of, owned_region, claimed_region, PartText}
-use Rattle.lower.specs.Blocks.{BlockText, raised, uncut, joined, blocks_by, Run, block_span, own_last, with_last, part_of, claim_end_of}
-use Rattle.lower.specs.Bodies.{AreNests, first_lines}
-use Rattle.lower.specs.Taken.{sites_of, taken_region}
-use Rattle.lower.specs.Fetches.{Entry, FetchText, IsPart, AreFetched, fetched_groups, loads_from}
+use Rattle.sched.specs.Loading.{Loads}
+use Rattle.blocks.specs.Blocks.{LayText, Whole, is_parallel_named, alone_by, lay_over, dimension_by, dimension_of, dimensions_of, owned_region, claimed_region, PartText}
+use Rattle.sched.specs.Blocks.{difference}
+use Rattle.blocks.specs.Blocks.{BlockText, raised, uncut, joined, blocks_by, Run, block_span, own_last, with_last, part_of, claim_end_of}
+use Rattle.blocks.specs.Bodies.{AreNests, first_lines}
+use Rattle.regions.specs.Taken.{sites_of, taken_region}
+use Rattle.sched.specs.Fetches.{Entry}
+use Rattle.blocks.specs.Fetches.{FetchText}
+use Rattle.lower.specs.Fetches.{IsPart, AreFetched, fetched_groups, loads_from}
 use Rattle.lower.specs.Groups.{HasBody, line_behind, HaveBodies, HasGroups}
 use Rattle.lower.proofs.Dividing.{nearest_of_small}
 use Rattle.completeness.specs.Owed.{IsNearForm, IsNearSpan, IsWithinSpan, AreClaimsNear}

@@ -10,11 +10,11 @@ use Rattle.sched.specs.declared.numbers.Extent.{Extent}
 use Rattle.sched.specs.Placing.{is_parallel}
 use Rattle.sched.specs.Standing.{◌>>=◌}
 use Rattle.headline.specs.Numbers.{HasEnds, HaveEnds}
-use Rattle.lower.specs.Stored.{StoredText}
-use Rattle.lower.specs.Needs.{block_at, add_blocks, blocks_over, length_at, low_at, turns_over}
-use Rattle.lower.specs.Needs.{turns_found, turns_needed, or_all_turns, loops_needed, first_count, other_counts, or_one_piece}
-use Rattle.lower.specs.Needs.{pieces_needed}
-use Rattle.lower.proofs.Laying.{bound, same}
+use Rattle.sched.specs.Stored.{StoredText}
+use Rattle.regions.specs.Needs.{block_at, add_blocks, blocks_over, length_at, low_at, turns_over}
+use Rattle.regions.specs.Needs.{turns_found, turns_needed, or_all_turns, loops_needed, first_count, other_counts, or_one_piece}
+use Rattle.regions.specs.Needs.{pieces_needed}
+use Rattle.blocks.proofs.Laying.{bound, same}
 use Rattle.lower.proofs.Gridded.{IsBetween, AreBetween}
 
 module _ (low n : ℤ) where

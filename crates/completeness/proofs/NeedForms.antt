@@ -23,19 +23,24 @@ use Rattle.sched.specs.declared.numbers.Extent.{Extent}
 use Rattle.sched.specs.Placing.{is_parallel}
 use Rattle.sched.specs.Standing.{◌>>=◌, alone}
 use Rattle.lower.specs.declared.lowering.Lowered.{Lowered}
-use Rattle.lower.specs.Stored.{StoredText, stored_functions, has_large}
-use Rattle.lower.specs.Around.{grid_scope}
-use Rattle.lower.specs.Faults.{are_whole, region_fault}
-use Rattle.lower.specs.Regions.{LaidText}
+use Rattle.sched.specs.Stored.{StoredText}
+use Rattle.lower.specs.Stored.{stored_functions, has_large}
+use Rattle.sched.specs.Around.{grid_scope}
+use Rattle.regions.specs.Faults.{are_whole}
+use Rattle.lower.specs.Faults.{region_fault}
+use Rattle.sched.specs.Regions.{LaidText}
 use Rattle.lower.specs.Owning.{IsLaidBy}
-use Rattle.lower.specs.Blocks.{difference}
-use Rattle.lower.specs.Bodies.{first_lines}
-use Rattle.lower.specs.Taken.{sites_of}
-use Rattle.lower.specs.Needs.{is_multiple, plus_part, plus_parts, divided, block_at, add_blocks, blocks_over, all_turns, or_all_turns, first_count, other_counts, length_at, low_at, turns_over}
-use Rattle.lower.specs.Needs.{turns_found, turns_needed, loops_needed, or_one_piece, pieces_needed}
-use Rattle.lower.specs.Fetches.{Entry, FetchText, AreFetched, fetched_groups}
+use Rattle.sched.specs.Blocks.{difference}
+use Rattle.blocks.specs.Bodies.{first_lines}
+use Rattle.regions.specs.Taken.{sites_of}
+use Rattle.regions.specs.Needs.{is_multiple, plus_part, plus_parts, divided, block_at, add_blocks, blocks_over, all_turns, or_all_turns, first_count, other_counts, length_at, low_at}
+use Rattle.regions.specs.Needs.{turns_over}
+use Rattle.regions.specs.Needs.{turns_found, turns_needed, loops_needed, or_one_piece, pieces_needed}
+use Rattle.sched.specs.Fetches.{Entry}
+use Rattle.blocks.specs.Fetches.{FetchText}
+use Rattle.lower.specs.Fetches.{AreFetched, fetched_groups}
 use Rattle.lower.specs.Groups.{HasBody, line_behind, HaveBodies, HasGroups}
-use Rattle.lower.proofs.Laying.{bound, same}
+use Rattle.blocks.proofs.Laying.{bound, same}
 use Rattle.completeness.specs.Owed.{IsWithinSpan}
 use Rattle.completeness.proofs.Bodies.{other_at, entry_at}
 use Rattle.completeness.proofs.GridCounts.{IsShort, grid_few}

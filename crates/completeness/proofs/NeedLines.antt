@@ -24,12 +24,14 @@ use Rattle.sched.proofs.Arriving.{skeletal}
 use Rattle.headline.proofs.Lists.{at_map}
 use Rattle.validation.specs.Certificate.Certificate.{is_need_of, need_is_known}
 use Rattle.lower.specs.declared.lowering.Lowered.{Lowered}
-use Rattle.lower.specs.Stored.{StoredText, stored_functions, has_large}
-use Rattle.lower.specs.Regions.{bodies_from, skeleton_of}
-use Rattle.lower.specs.Around.{grid_scope}
-use Rattle.lower.specs.Faults.{are_whole, region_fault}
-use Rattle.lower.specs.Taken.{sites_of}
-use Rattle.lower.specs.Needs.{loops_needed, turns_needed, first_count, other_counts, or_one_piece, pieces_needed}
+use Rattle.sched.specs.Stored.{StoredText}
+use Rattle.lower.specs.Stored.{stored_functions, has_large}
+use Rattle.regions.specs.Regions.{bodies_from, skeleton_of}
+use Rattle.sched.specs.Around.{grid_scope}
+use Rattle.regions.specs.Faults.{are_whole}
+use Rattle.lower.specs.Faults.{region_fault}
+use Rattle.regions.specs.Taken.{sites_of}
+use Rattle.regions.specs.Needs.{loops_needed, turns_needed, first_count, other_counts, or_one_piece, pieces_needed}
 use Rattle.lower.specs.Fetches.{fetched_groups}
 use Rattle.lower.specs.Groups.{HasGroups}
 use Rattle.lower.specs.Owning.{IsLaidBy}

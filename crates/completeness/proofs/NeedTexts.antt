@@ -14,11 +14,11 @@ use Rattle.sched.specs.declared.placing.Loop.{Loop}
 use Rattle.sched.specs.declared.numbers.Extent.{Extent}
 use Rattle.sched.specs.Placing.{is_parallel}
 use Rattle.sched.specs.Standing.{◌>>=◌, alone}
-use Rattle.lower.specs.Stored.{StoredText}
-use Rattle.lower.specs.Blocks.{difference}
-use Rattle.lower.specs.Needs.{is_multiple, plus_part, plus_parts, divided, block_at, add_blocks, blocks_over, length_at, low_at, turns_over}
-use Rattle.lower.specs.Needs.{turns_found, turns_needed, or_all_turns, loops_needed, first_count, other_counts, or_one_piece, pieces_needed}
-use Rattle.lower.proofs.Laying.{bound, same}
+use Rattle.sched.specs.Stored.{StoredText}
+use Rattle.sched.specs.Blocks.{difference}
+use Rattle.regions.specs.Needs.{is_multiple, plus_part, plus_parts, divided, block_at, add_blocks, blocks_over, length_at, low_at, turns_over}
+use Rattle.regions.specs.Needs.{turns_found, turns_needed, or_all_turns, loops_needed, first_count, other_counts, or_one_piece, pieces_needed}
+use Rattle.blocks.proofs.Laying.{bound, same}
 use Rattle.completeness.specs.Owed.{IsWithinSpan}
 use Rattle.completeness.proofs.FetchTexts.{span_below}
 use Rattle.completeness.proofs.GridCounts.{IsShort}

@@ -20,16 +20,18 @@ use Rattle.algo.specs.Scoping.Standing.{Written}
 use Rattle.sched.specs.declared.numbers.Extent.{Extent}
 use Rattle.sched.specs.Skeleton.{NestText, SkeletonText}
 use Rattle.sched.specs.Standing.{◌>>=◌}
-use Rattle.lower.specs.Called.{called}
-use Rattle.lower.specs.Stored.{FormulaText, StoredText, calls_in}
-use Rattle.lower.specs.Around.{AroundText, head_scope, interval_in, around}
-use Rattle.lower.specs.Bounded.{whole}
+use Rattle.sched.specs.Called.{called}
+use Rattle.sched.specs.Stored.{FormulaText, StoredText, calls_in}
+use Rattle.sched.specs.Around.{AroundText, head_scope, interval_in, around}
+use Rattle.sched.specs.Bounded.{whole}
 use Rattle.lower.specs.Owning.{IsExtent}
-use Rattle.lower.specs.Regions.{symbols_from}
-use Rattle.lower.specs.Taken.{SiteText, add_spans, add_call, add_calls, with_site, add_site, add_asked, add_sites, sites_of, freed, either, with_call, with_calls, with_sites, needed_span}
-use Rattle.lower.specs.Taken.{is_number, add_symbolic, greatest_from, least_from, cut, shortest, run_of, places_count, or_all, is_shown, shown, seated, needed_part, tight, part_of}
-use Rattle.lower.specs.Taken.{taken_region, taken_places}
-use Rattle.lower.proofs.Laying.{bound, same}
+use Rattle.sched.specs.Regions.{symbols_from}
+use Rattle.sched.specs.Taken.{SiteText, freed}
+use Rattle.regions.specs.Taken.{add_spans, add_call, add_calls, with_site, add_site, add_asked, add_sites, sites_of, either, with_call, with_calls, with_sites, needed_span}
+use Rattle.regions.specs.Taken.{is_number, add_symbolic, greatest_from, least_from, cut, or_all, is_shown, shown, seated, needed_part, tight, part_of}
+use Rattle.sched.specs.Taken.{shortest, run_of, places_count}
+use Rattle.regions.specs.Taken.{taken_region, taken_places}
+use Rattle.blocks.proofs.Laying.{bound, same}
 use Rattle.completeness.proofs.Limited.{Limited, AreLimited, IsSmall, number_limited}
 use Rattle.completeness.proofs.Bounding.{SpanLimited, interval_limited, choice_limited, projected_limited}
 

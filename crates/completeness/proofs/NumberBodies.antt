@@ -20,16 +20,21 @@ use Rattle.sched.specs.Legal.{IsLegal}
 use Rattle.sched.specs.Runs.{lines_to}
 use Rattle.sched.specs.Skeleton.{NestText}
 use Rattle.lower.specs.declared.lowering.Lowered.{Lowered}
-use Rattle.lower.specs.Stored.{StoredText, stored_functions, has_large}
-use Rattle.lower.specs.Around.{grid_scope}
-use Rattle.lower.specs.Faults.{are_whole, region_fault}
+use Rattle.sched.specs.Stored.{StoredText}
+use Rattle.lower.specs.Stored.{stored_functions, has_large}
+use Rattle.sched.specs.Around.{grid_scope}
+use Rattle.regions.specs.Faults.{are_whole}
+use Rattle.lower.specs.Faults.{region_fault}
 use Rattle.lower.specs.Planned.{unplanned}
-use Rattle.lower.specs.Regions.{bodies_from}
-use Rattle.lower.specs.Loading.{Loads}
-use Rattle.lower.specs.Blocks.{dimensions_of, claimed_region, own_places}
-use Rattle.lower.specs.Bodies.{last_claim, first_lines}
-use Rattle.lower.specs.Taken.{sites_of}
-use Rattle.lower.specs.Fetches.{Entry, FetchText, IsPart, AreFetched, fetched_groups, with_fetches, loads_from}
+use Rattle.regions.specs.Regions.{bodies_from}
+use Rattle.sched.specs.Loading.{Loads}
+use Rattle.blocks.specs.Blocks.{dimensions_of, claimed_region, own_places}
+use Rattle.lower.specs.Bodies.{last_claim}
+use Rattle.blocks.specs.Bodies.{first_lines}
+use Rattle.regions.specs.Taken.{sites_of}
+use Rattle.sched.specs.Fetches.{Entry}
+use Rattle.blocks.specs.Fetches.{FetchText, with_fetches}
+use Rattle.lower.specs.Fetches.{IsPart, AreFetched, fetched_groups, loads_from}
 use Rattle.lower.specs.Groups.{HasBody, HasGroups}
 use Rattle.completeness.specs.Fitting.{IsSplitOnce}
 use Rattle.completeness.proofs.AllocForms.{own_places_limited}

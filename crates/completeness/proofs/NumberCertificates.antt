@@ -26,9 +26,11 @@ use Rattle.headline.proofs.Lists.{from_map}
 use Rattle.sched.specs.Schedule.{Schedule}
 use Rattle.sched.specs.Legal.{IsLegal}
 use Rattle.lower.specs.declared.lowering.Lowered.{Lowered}
-use Rattle.lower.specs.Stored.{StoredText, stored_functions, has_large}
-use Rattle.lower.specs.Faults.{are_whole, region_fault}
-use Rattle.lower.specs.Fetches.{Entry}
+use Rattle.sched.specs.Stored.{StoredText}
+use Rattle.lower.specs.Stored.{stored_functions, has_large}
+use Rattle.regions.specs.Faults.{are_whole}
+use Rattle.lower.specs.Faults.{region_fault}
+use Rattle.sched.specs.Fetches.{Entry}
 use Rattle.lower.specs.Groups.{AreOwned, line_behind, HaveBodies, HasGroups}
 use Rattle.completeness.specs.Fitting.{IsSplitOnce}
 use Rattle.completeness.specs.SaidCertificates.{has_numbers}

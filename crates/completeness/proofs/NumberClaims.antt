@@ -23,16 +23,21 @@ use Rattle.sched.specs.declared.numbers.Extent.{Extent}
 use Rattle.sched.specs.Skeleton.{BodyText, NestText}
 use Rattle.sched.proofs.Arriving.{skeletal}
 use Rattle.lower.specs.declared.lowering.Lowered.{Lowered}
-use Rattle.lower.specs.Stored.{FormulaText, StoredText, some_calls, stored_functions, has_large}
-use Rattle.lower.specs.Around.{grid_scope}
-use Rattle.lower.specs.Faults.{are_whole, region_fault}
-use Rattle.lower.specs.Regions.{bodies_from}
-use Rattle.lower.specs.Loading.{Loads}
-use Rattle.lower.specs.Blocks.{dimensions_of, claimed_region}
-use Rattle.lower.specs.Bodies.{first_lines, AreNests}
-use Rattle.lower.specs.Taken.{sites_of, taken_region}
-use Rattle.lower.specs.Needs.{pieces_needed}
-use Rattle.lower.specs.Fetches.{Entry, FetchText, IsPart, IsFetched, AreFetched, is_fetched, fetched_groups, loads_from, Calls}
+use Rattle.sched.specs.Stored.{FormulaText, StoredText}
+use Rattle.regions.specs.Stored.{some_calls}
+use Rattle.lower.specs.Stored.{stored_functions, has_large}
+use Rattle.sched.specs.Around.{grid_scope}
+use Rattle.regions.specs.Faults.{are_whole}
+use Rattle.lower.specs.Faults.{region_fault}
+use Rattle.regions.specs.Regions.{bodies_from}
+use Rattle.sched.specs.Loading.{Loads}
+use Rattle.blocks.specs.Blocks.{dimensions_of, claimed_region}
+use Rattle.blocks.specs.Bodies.{first_lines, AreNests}
+use Rattle.regions.specs.Taken.{sites_of, taken_region}
+use Rattle.regions.specs.Needs.{pieces_needed}
+use Rattle.sched.specs.Fetches.{Entry}
+use Rattle.blocks.specs.Fetches.{FetchText}
+use Rattle.lower.specs.Fetches.{IsPart, IsFetched, AreFetched, is_fetched, fetched_groups, loads_from, Calls}
 use Rattle.lower.specs.Groups.{HasBody, HasGroups}
 use Rattle.completeness.specs.Fitting.{IsSplitOnce}
 use Rattle.completeness.specs.SaidCertificates.{has_numbers}

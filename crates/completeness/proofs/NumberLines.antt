@@ -21,10 +21,11 @@ use Rattle.sched.specs.Runs.{lines_to}
 use Rattle.sched.specs.declared.skeleton.Step.{Step}
 use Rattle.sched.specs.declared.skeleton.Step.TheVariants.{Turns, Named, Tested}
 use Rattle.sched.specs.Skeleton.{NestText, SkeletonText}
-use Rattle.lower.specs.Stored.{FormulaText, StoredText}
-use Rattle.lower.specs.Loading.{Loads}
-use Rattle.lower.specs.Bodies.{first_left, other_lefts, IsIndex, AreCoordinates, IsStore, AreNests}
-use Rattle.lower.specs.Fetches.{FetchText, with_fetches}
+use Rattle.sched.specs.Stored.{FormulaText, StoredText}
+use Rattle.sched.specs.Loading.{Loads}
+use Rattle.sched.specs.Bodies.{first_left, other_lefts}
+use Rattle.blocks.specs.Bodies.{IsIndex, AreCoordinates, IsStore, AreNests}
+use Rattle.blocks.specs.Fetches.{FetchText, with_fetches}
 use Rattle.completeness.specs.SaidLines.{has_index_numbers, has_line_numbers}
 use Rattle.completeness.proofs.Limited.{LimitedIf, StepIs}
 use Rattle.completeness.proofs.Needed.{PlaceLimited}

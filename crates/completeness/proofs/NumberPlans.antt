@@ -19,12 +19,15 @@ use Rattle.sched.specs.Legal.{IsLegal}
 use Rattle.sched.specs.declared.numbers.Extent.{Extent}
 use Rattle.sched.specs.Numbers.{loop_numbers, parallel_loops, grid_counts, or_one}
 use Rattle.lower.specs.declared.lowering.Lowered.{Lowered}
-use Rattle.lower.specs.Stored.{StoredText, stored_functions, flags, has_large}
-use Rattle.lower.specs.Bounded.{whole}
-use Rattle.lower.specs.Faults.{are_whole, region_fault}
+use Rattle.sched.specs.Stored.{StoredText}
+use Rattle.lower.specs.Stored.{stored_functions, has_large}
+use Rattle.blocks.specs.Stored.{flags}
+use Rattle.sched.specs.Bounded.{whole}
+use Rattle.regions.specs.Faults.{are_whole}
+use Rattle.lower.specs.Faults.{region_fault}
 use Rattle.lower.specs.Planned.{unplanned}
 use Rattle.lower.specs.Owning.{IsExtent}
-use Rattle.lower.specs.Fetches.{Entry}
+use Rattle.sched.specs.Fetches.{Entry}
 use Rattle.lower.specs.Groups.{HasBody, HasGroups}
 use Rattle.lower.proofs.Owners as owners
 use Rattle.completeness.specs.Fitting.{IsSplitOnce}

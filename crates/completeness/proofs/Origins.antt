@@ -13,8 +13,9 @@ use Rattle.sched.specs.declared.numbers.Numbers.{Numbers}
 use Rattle.sched.specs.declared.skeleton.Known.{Known}
 use Rattle.sched.specs.Numbers.{numbers_named}
 use Rattle.sched.specs.Standing.{form_named}
-use Rattle.lower.specs.Blocks.{multiple_from, factor_of, BlockText, PartText, Whole, Run, Scattered, LayText, alone_by, plus_if, is_parallel_named, uncut, origin_over, is_guarded}
-use Rattle.lower.specs.Blocks.{origin_within, within_by, joined, part_of, places_by, dimension_by, dimension_of, own_places}
+use Rattle.blocks.specs.Blocks.{multiple_from, BlockText, PartText, Whole, Run, Scattered, LayText, alone_by, plus_if, is_parallel_named, uncut, origin_over, is_guarded}
+use Rattle.sched.specs.Blocks.{factor_of}
+use Rattle.blocks.specs.Blocks.{origin_within, within_by, joined, part_of, places_by, dimension_by, dimension_of, own_places}
 use Rattle.completeness.proofs.Only.{Only, only_plus}
 use Rattle.completeness.proofs.Standing.{OnlyIf, named_if}
 use Rattle.completeness.proofs.Sited.{PlaceOnly}

@@ -24,9 +24,12 @@ use Rattle.sched.specs.Subjects.{subject_said, is_output, has_home}
 use Rattle.sched.specs.Placing.{has_root}
 use Rattle.headline.proofs.Lists.{at_map, from_map}
 use Rattle.lower.specs.declared.lowering.Lowered.{Lowered}
-use Rattle.lower.specs.Stored.{StoredText, stored_by, stored_functions, flags, has_large}
-use Rattle.lower.specs.Bounded.{whole}
-use Rattle.lower.specs.Faults.{are_whole, region_fault}
+use Rattle.sched.specs.Stored.{StoredText}
+use Rattle.blocks.specs.Stored.{stored_by, flags}
+use Rattle.lower.specs.Stored.{stored_functions, has_large}
+use Rattle.sched.specs.Bounded.{whole}
+use Rattle.regions.specs.Faults.{are_whole}
+use Rattle.lower.specs.Faults.{region_fault}
 use Rattle.lower.specs.Groups.{IsGroupOf, AreGroupsOf, HasGroups}
 use Rattle.lower.proofs.Extents.{region_is, regions_there}
 use Rattle.lower.proofs.Reached.{output_holds}

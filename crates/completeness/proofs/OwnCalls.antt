@@ -14,8 +14,8 @@ use Rattle.meaning.proofs.Alone.{each_call}
 use Rattle.meaning.proofs.Back.{update_is, pure_goes_back, right_goes_back}
 use Rattle.meaning.proofs.Stays.{IsDone, done}
 use Rattle.soundness.proofs.Refines.{name_refl, name_true}
-use Rattle.lower.specs.Stored.{put}
-use Rattle.lower.proofs.Laying.{same}
+use Rattle.blocks.specs.Stored.{put}
+use Rattle.blocks.proofs.Laying.{same}
 use Rattle.completeness.proofs.Defined.{put_is}
 use Rattle.completeness.proofs.Earlier.{before, ready_on}
 

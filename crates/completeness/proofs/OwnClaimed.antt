@@ -17,8 +17,9 @@ use Rattle.sched.specs.declared.schedule.Tail.TheVariants.{Guard, Roundup, Shift
 use Rattle.sched.specs.declared.numbers.Numbers.{Numbers}
 use Rattle.sched.specs.Numbers.{numbers_named, last_number}
 use Rattle.sched.specs.Standing.{form_named}
-use Rattle.lower.specs.Blocks.{factor_of, block_end, multiple_from, own_last, claim_last, all_ends, with_last, raised, difference, claim_end_of}
-use Rattle.lower.specs.Blocks.{PartText, Whole, Run, Scattered, LayText, is_parallel_named, alone_by, uncut, block_within, joined, part_of, dimension_by, dimension_of}
+use Rattle.sched.specs.Blocks.{factor_of, difference}
+use Rattle.blocks.specs.Blocks.{block_end, multiple_from, own_last, claim_last, all_ends, with_last, raised, claim_end_of}
+use Rattle.blocks.specs.Blocks.{PartText, Whole, Run, Scattered, LayText, is_parallel_named, alone_by, uncut, block_within, joined, part_of, dimension_by, dimension_of}
 use Rattle.lower.proofs.Blocking.{CutFits}
 use Rattle.completeness.specs.Owed.{IsNearForm, IsNearSpan}
 use Rattle.completeness.proofs.ClaimEnds.{AreSome, claim_end_least}

@@ -20,7 +20,7 @@ use Rattle.soundness.proofs.Refines.{name_refl}
 use Rattle.rules.specs.Bounding.Called.{called}
 use Rattle.rules.specs.Bounding.Rules.{is_index_span, or_anything, is_bounded_in, rules_of}
 use Rattle.rules.specs.Bounding.Scopes.{scope_of}
-use Rattle.lower.specs.Loading.{Loads}
+use Rattle.sched.specs.Loading.{Loads}
 use Rattle.completeness.proofs.PlainTurns.{one_if, hits, itself}
 
 -- ---- names at their places

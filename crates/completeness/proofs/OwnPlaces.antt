@@ -17,18 +17,21 @@ use Rattle.sched.specs.declared.skeleton.Known.{Known}
 use Rattle.sched.specs.Numbers.{numbers_named}
 use Rattle.sched.specs.Standing.{◌>>=◌, form_named}
 use Rattle.sched.specs.Skeleton.{SkeletonText}
-use Rattle.lower.specs.Stored.{StoredText}
-use Rattle.lower.specs.Regions.{LaidText}
-use Rattle.lower.specs.Fetches.{Entry}
+use Rattle.sched.specs.Stored.{StoredText}
+use Rattle.sched.specs.Regions.{LaidText}
+use Rattle.sched.specs.Fetches.{Entry}
 use Rattle.lower.specs.Groups.{rooted}
-use Rattle.lower.specs.Blocks.{factor_of, own_last, claim_last, BlockText, PartText, Whole, Run, Scattered, LayText, alone_by, is_parallel_named, uncut, is_guarded, product, reach_over, end_of}
-use Rattle.lower.specs.Blocks.{places_by, whole_dimension, own_places, dimensions_of, lay_over}
-use Rattle.lower.specs.Planned.{maybe_stepped, maybe_moved, told_start, told_limits, told_inner_limits, shifted_origin, told_origin, told_inner_origin, told_blocks, told_within, told_joined}
-use Rattle.lower.specs.Planned.{told_part}
-use Rattle.lower.specs.Planned.{told_span, told_by, told_dimension, add_dimensions, told_dimensions, is_owned_by, is_written, is_planned, name_unless, or_later, unplanned_at}
+use Rattle.sched.specs.Blocks.{factor_of}
+use Rattle.blocks.specs.Blocks.{own_last, claim_last, BlockText, PartText, Whole, Run, Scattered, LayText, alone_by, is_parallel_named, uncut, is_guarded, product, reach_over, end_of}
+use Rattle.blocks.specs.Blocks.{places_by, whole_dimension, own_places, dimensions_of, lay_over}
+use Rattle.blocks.specs.Planned.{maybe_stepped, maybe_moved, told_start, told_limits, told_inner_limits, shifted_origin, told_origin, told_inner_origin, told_blocks, told_within}
+use Rattle.blocks.specs.Planned.{told_joined}
+use Rattle.blocks.specs.Planned.{told_part}
+use Rattle.blocks.specs.Planned.{told_span, told_by, told_dimension, add_dimensions, told_dimensions}
+use Rattle.lower.specs.Planned.{is_owned_by, is_written, is_planned, name_unless, or_later, unplanned_at}
 use Rattle.lower.specs.Planned.{none_inside, first_unplanned, first_unlaid, unplanned_over}
-use Rattle.lower.proofs.Laying.{bound, same}
-use Rattle.lower.proofs.Planned.{dimensions_are}
+use Rattle.blocks.proofs.Laying.{bound, same}
+use Rattle.blocks.proofs.Planned.{dimensions_are}
 use Rattle.completeness.proofs.Limited.{Limited, LimitedIf, named_limited}
 use Rattle.completeness.proofs.Needed.{PlaceLimited}
 

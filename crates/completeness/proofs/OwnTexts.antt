@@ -21,18 +21,20 @@ use Rattle.sched.specs.Numbers.{numbers_named, last_number, loop_numbers, parall
 use Rattle.sched.specs.Standing.{form_named, counted_from, has_rest}
 use Rattle.sched.specs.Skeleton.{SkeletonText, grid_forms}
 use Rattle.sched.proofs.Standings.{found_all}
-use Rattle.lower.specs.Stored.{StoredText}
+use Rattle.sched.specs.Stored.{StoredText}
 use Rattle.lower.specs.Owning.{IsLaidBy, IsExtent}
-use Rattle.lower.specs.Blocks.{LayText, Whole, difference, is_parallel_named, alone_by, lay_over, dimension_by, dimension_of, dimensions_of, owned_region, claimed_region, PartText}
-use Rattle.lower.specs.Blocks.{BlockText, uncut, joined, blocks_by, Run, block_span, own_last, with_last, part_of, claim_end_of, sum, own_places, end_of, multiple_from, factor_of, places_by}
-use Rattle.lower.specs.Blocks.{reach_over}
+use Rattle.blocks.specs.Blocks.{LayText, Whole, is_parallel_named, alone_by, lay_over, dimension_by, dimension_of, dimensions_of, owned_region, claimed_region, PartText}
+use Rattle.sched.specs.Blocks.{difference}
+use Rattle.blocks.specs.Blocks.{BlockText, uncut, joined, blocks_by, Run, block_span, own_last, with_last, part_of, claim_end_of, sum, own_places, end_of, multiple_from, places_by}
+use Rattle.sched.specs.Blocks.{factor_of}
+use Rattle.blocks.specs.Blocks.{reach_over}
 use Rattle.lower.proofs.Dividing.{nearest_of_small}
 use Rattle.completeness.proofs.PlainTurns.{hits}
 use Rattle.soundness.specs.Claims.{In}
 use Rattle.sched.specs.declared.placing.Loop.{Loop}
 use Rattle.sched.specs.declared.skeleton.Known.{Known}
 use Rattle.sched.specs.Placing.{is_parallel}
-use Rattle.lower.specs.Regions.{count_of}
+use Rattle.sched.specs.Regions.{count_of}
 use Rattle.lower.proofs.Blocking.{IsSmall, CutFits}
 use Rattle.lower.proofs.Covering.{NumbersAre}
 use Rattle.lower.proofs.Grids.{parallel_named}

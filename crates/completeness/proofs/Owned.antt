@@ -25,11 +25,14 @@ use Rattle.headline.specs.Numbers.{HasEnds, HaveEnds}
 use Rattle.headline.proofs.Lists.{from_map, at_map}
 use Rattle.headline.proofs.Members.{got}
 use Rattle.lower.specs.declared.lowering.Lowered.{Lowered}
-use Rattle.lower.specs.Stored.{FormulaText, StoredText, stored_functions, has_large}
-use Rattle.lower.specs.Regions.{LaidText, laid_functions, skeleton_of, bodies_from}
-use Rattle.lower.specs.Blocks.{PartText, Whole, Run, Scattered, LayText, dimension_by, dimension_of, lay_over, dimensions_of, owned_region, part_of}
-use Rattle.lower.specs.Bounded.{whole}
-use Rattle.lower.specs.Faults.{is_whole, is_homeless, are_whole, region_fault}
+use Rattle.sched.specs.Stored.{FormulaText, StoredText}
+use Rattle.lower.specs.Stored.{stored_functions, has_large}
+use Rattle.sched.specs.Regions.{LaidText}
+use Rattle.regions.specs.Regions.{laid_functions, skeleton_of, bodies_from}
+use Rattle.blocks.specs.Blocks.{PartText, Whole, Run, Scattered, LayText, dimension_by, dimension_of, lay_over, dimensions_of, owned_region, part_of}
+use Rattle.sched.specs.Bounded.{whole}
+use Rattle.regions.specs.Faults.{is_whole, is_homeless, are_whole}
+use Rattle.lower.specs.Faults.{region_fault}
 use Rattle.lower.specs.Groups.{IsGroupOf, AreGroupsOf, AreOwned, HasBlock, HaveBlocks, root_functions, region_of, HasGroups}
 use Rattle.lower.specs.Owning.{has_scattered, IsOwned, IsLaidBy, MakeUp}
 use Rattle.lower.proofs.Grids.{head_of}

@@ -57,19 +57,28 @@ use Rattle.sched.specs.declared.skeleton.Known.{Known as KnownForm}
 use Rattle.sched.specs.Skeleton.{NestText, SkeletonText}
 use Rattle.sched.specs.Standing.{form_named}
 use Rattle.lower.specs.declared.lowering.Lowered.{Lowered}
-use Rattle.lower.specs.Stored.{FormulaText, StoredText, left_at, are_calls_of, calls_left, calls_in, some_calls, stored_functions, has_large}
-use Rattle.lower.specs.Faults.{are_whole, region_fault}
-use Rattle.lower.specs.Regions.{missing_from, bodies_from}
-use Rattle.lower.specs.Around.{AroundText, interval_in, form_span, around, range_names, ranges_of, names_with, grid_scope, head_scope, bind_steps, left_around, coordinates_behind}
-use Rattle.lower.specs.Bounded.{whole, is_on_input, is_in_region, is_call_bounded, are_bounded, is_bounded}
-use Rattle.lower.specs.Loading.{Loads, last_of, name_by, loaded_name, as_load}
-use Rattle.lower.specs.Blocks.{dimensions_of, claimed_region, own_places}
-use Rattle.lower.specs.Bodies.{IsStored, first_lines, IsStore, AreNests, last_claim, first_left, other_lefts, IsIndex, AreCoordinates}
-use Rattle.lower.specs.Fetches.{Entry, FetchText, is_fetched, fetched_groups}
-use Rattle.lower.specs.Taken.{SiteText, add_calls, add_spans, sites_of}
+use Rattle.sched.specs.Stored.{FormulaText, StoredText, left_at, are_calls_of, calls_left, calls_in}
+use Rattle.regions.specs.Stored.{some_calls}
+use Rattle.lower.specs.Stored.{stored_functions, has_large}
+use Rattle.regions.specs.Faults.{are_whole}
+use Rattle.lower.specs.Faults.{region_fault}
+use Rattle.regions.specs.Regions.{missing_from, bodies_from}
+use Rattle.sched.specs.Around.{AroundText, interval_in, form_span, around, range_names, ranges_of, names_with, grid_scope, head_scope, bind_steps, left_around, coordinates_behind}
+use Rattle.sched.specs.Bounded.{whole}
+use Rattle.blocks.specs.Bounded.{is_on_input, is_in_region, is_call_bounded, are_bounded, is_bounded}
+use Rattle.sched.specs.Loading.{Loads, last_of, name_by, loaded_name, as_load}
+use Rattle.blocks.specs.Blocks.{dimensions_of, claimed_region, own_places}
+use Rattle.blocks.specs.Bodies.{IsStored, first_lines, IsStore, AreNests, IsIndex, AreCoordinates}
+use Rattle.lower.specs.Bodies.{last_claim}
+use Rattle.sched.specs.Bodies.{first_left, other_lefts}
+use Rattle.sched.specs.Fetches.{Entry}
+use Rattle.blocks.specs.Fetches.{FetchText}
+use Rattle.lower.specs.Fetches.{is_fetched, fetched_groups}
+use Rattle.sched.specs.Taken.{SiteText}
+use Rattle.regions.specs.Taken.{add_calls, add_spans, sites_of}
 use Rattle.lower.proofs.Extents.{region_is}
 use Rattle.lower.specs.Groups.{HasBody, HasGroups}
-use Rattle.lower.proofs.Laying.{bound, same}
+use Rattle.blocks.proofs.Laying.{bound, same}
 use Rattle.completeness.specs.Laws.{NamesNoLoad, AreLinesTold, IsStore as IsStoreLine}
 use Rattle.completeness.specs.Owed.{EachLine, IsNameTest}
 use Rattle.completeness.specs.Stores.{IsHeldPart, AreHeld}
@@ -116,7 +125,7 @@ use Rattle.bounds.specs.Interval.{span_named}
 use Rattle.plan.specs.declared.stmt.Places.TheVariants.{From}
 use Rattle.meaning.proofs.Cases.{name_differs}
 use Rattle.sched.specs.Skeleton.{BodyText, is_missing, variables_at}
-use Rattle.lower.specs.Called.{called as called_there}
+use Rattle.sched.specs.Called.{called as called_there}
 use Rattle.completeness.specs.Placed.{GoesOn, AreLeftsHeld, index_at, AreOwnHeld}
 use Rattle.completeness.proofs.Defined.{missing_at}
 use Rattle.completeness.proofs.RangedLefts.{left_got, interval_agrees, left_of_update, left_typed, lefts_few}

@@ -14,7 +14,7 @@ use Rattle.plan.specs.Certificate.Cells.{piece_count, grid_point, grid_rank, is_
 use Rattle.soundness.proofs.Refines.{and_parts}
 use Rattle.sched.specs.declared.numbers.Extent.{Extent}
 use Rattle.sched.specs.Visits.{IsInExtents, IsInGrid}
-use Rattle.lower.specs.Bounded.{whole}
+use Rattle.sched.specs.Bounded.{whole}
 
 -- ---- tests
 

@@ -38,16 +38,21 @@ use Rattle.sched.specs.Numbers.{numbers_named}
 use Rattle.sched.specs.Runs.{lines_to}
 use Rattle.sched.specs.Skeleton.{NestText, SkeletonText}
 use Rattle.lower.specs.declared.lowering.Lowered.{Lowered}
-use Rattle.lower.specs.Stored.{FormulaText, StoredText, stored_functions, has_large}
-use Rattle.lower.specs.Faults.{are_whole, region_fault}
-use Rattle.lower.specs.Regions.{bodies_from}
-use Rattle.lower.specs.Around.{grid_scope}
+use Rattle.sched.specs.Stored.{FormulaText, StoredText}
+use Rattle.lower.specs.Stored.{stored_functions, has_large}
+use Rattle.regions.specs.Faults.{are_whole}
+use Rattle.lower.specs.Faults.{region_fault}
+use Rattle.regions.specs.Regions.{bodies_from}
+use Rattle.sched.specs.Around.{grid_scope}
 use Rattle.lower.specs.Owning.{IsExtent, IsLaidBy}
-use Rattle.lower.specs.Taken.{sites_of}
-use Rattle.lower.specs.Loading.{Loads}
-use Rattle.lower.specs.Blocks.{LayText, lay_over, dimension_of, dimensions_of, owned_region, claimed_region, own_places}
-use Rattle.lower.specs.Bodies.{step_lines, first_lines, last_claim, IsStore, AreNests}
-use Rattle.lower.specs.Fetches.{Entry, FetchText, Claims, fetched_groups, loads_from, with_fetches}
+use Rattle.regions.specs.Taken.{sites_of}
+use Rattle.sched.specs.Loading.{Loads}
+use Rattle.blocks.specs.Blocks.{LayText, lay_over, dimension_of, dimensions_of, owned_region, claimed_region, own_places}
+use Rattle.blocks.specs.Bodies.{step_lines, first_lines, IsStore, AreNests}
+use Rattle.lower.specs.Bodies.{last_claim}
+use Rattle.sched.specs.Fetches.{Entry}
+use Rattle.blocks.specs.Fetches.{FetchText, Claims, with_fetches}
+use Rattle.lower.specs.Fetches.{fetched_groups, loads_from}
 use Rattle.lower.specs.Groups.{HasBody, HasGroups}
 use Rattle.lower.proofs.Blocking.{CutFits, IsSmall}
 use Rattle.lower.proofs.Covering.{NumbersAre}

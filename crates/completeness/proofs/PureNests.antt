@@ -17,11 +17,12 @@ use Rattle.sched.specs.declared.numbers.Numbers.{Numbers}
 use Rattle.sched.specs.declared.nest.Turning.{Turning}
 use Rattle.sched.specs.Standing.{◌>>=◌}
 use Rattle.sched.specs.Skeleton.{loop_turning}
-use Rattle.lower.specs.Stored.{FormulaText, put, pure_put, changes_put, formulas_put}
-use Rattle.lower.specs.Regions.{missing_from}
-use Rattle.lower.specs.Loading.{Loads}
-use Rattle.lower.specs.Bodies.{IsIndex}
-use Rattle.lower.proofs.Laying.{bound, same}
+use Rattle.sched.specs.Stored.{FormulaText}
+use Rattle.blocks.specs.Stored.{put, pure_put, changes_put, formulas_put}
+use Rattle.regions.specs.Regions.{missing_from}
+use Rattle.sched.specs.Loading.{Loads}
+use Rattle.blocks.specs.Bodies.{IsIndex}
+use Rattle.blocks.proofs.Laying.{bound, same}
 use Rattle.completeness.proofs.PlainTurns.{one_if, hits}
 use Rattle.completeness.proofs.PlainTurns.{itself, turn_name}
 

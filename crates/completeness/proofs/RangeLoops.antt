@@ -45,8 +45,8 @@ use Rattle.sched.proofs.Rooting.{all_reverse, all_by_variable}
 use Rattle.sched.proofs.Standings.{stands_not, stands_more, found_all, found_more, Begins, stood, waits, plainly, shifted, Joins, stays, puts, Puts, freely, by_loop, by_guard, by_test}
 use Rattle.sched.proofs.Passing.{IsClosed}
 use Rattle.sched.proofs.Closing.{next_of}
-use Rattle.lower.specs.Around.{anything, skip_to, bind, bind_step, bind_steps, grid_scope, head_scope, range_names}
-use Rattle.lower.proofs.Laying.{bound, same}
+use Rattle.sched.specs.Around.{anything, skip_to, bind, bind_step, bind_steps, grid_scope, head_scope, range_names}
+use Rattle.blocks.proofs.Laying.{bound, same}
 use Rattle.completeness.proofs.Standing.{Within, at_grid}
 use Rattle.completeness.proofs.Halves.{AreOthers}
 use Rattle.completeness.proofs.Lanes.{AreOnce, pass_closes, kept_more}

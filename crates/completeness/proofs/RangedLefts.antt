@@ -26,9 +26,10 @@ use Rattle.meaning.proofs.InliningTyped.{only_if-is, common-is, operator-is, som
 use Rattle.meaning.proofs.Own.{put_in_keeps_type, sides_keep}
 use Rattle.sched.specs.Standing.{◌>>=◌}
 use Rattle.sched.specs.Subjects.{is_pure, lacks}
-use Rattle.lower.specs.Stored.{FormulaText, left_at, put, left_put, lefts_put, formulas_put}
-use Rattle.lower.specs.Around.{range_names, ranges_of, names_with}
-use Rattle.lower.proofs.Laying.{bound, same}
+use Rattle.sched.specs.Stored.{FormulaText, left_at}
+use Rattle.blocks.specs.Stored.{put, left_put, lefts_put, formulas_put}
+use Rattle.sched.specs.Around.{range_names, ranges_of, names_with}
+use Rattle.blocks.proofs.Laying.{bound, same}
 use Rattle.completeness.proofs.Defined.{put_is, first_put, other_put}
 use Rattle.headline.proofs.Lists.{from_map}
 use Rattle.std.proofs.lemmas.List.{length-map}

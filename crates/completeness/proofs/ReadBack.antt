@@ -27,7 +27,7 @@ use Rattle.soundness.specs.Given.{claim_or_none, outline_of}
 use Rattle.soundness.proofs.Refines.{name_true}
 use Rattle.headline.proofs.Lists.{at_map}
 use Rattle.validation.specs.Stored.Stored.{name_read, call_read, as_read}
-use Rattle.lower.specs.Loading.{Loads, last_of, name_by, loaded_name, as_load}
+use Rattle.sched.specs.Loading.{Loads, last_of, name_by, loaded_name, as_load}
 use Rattle.completeness.specs.Laws.{NamesNoLoad}
 use Rattle.completeness.proofs.Numerals.{load_tells}
 

@@ -12,13 +12,15 @@ use Rattle.sched.specs.declared.numbers.Extent.{Extent}
 use Rattle.sched.specs.declared.region_rule.RegionRule.{RegionRule}
 use Rattle.sched.specs.declared.region_rule.RegionRule.TheVariants.{ShortShift, TooMuch}
 use Rattle.sched.specs.Standing.{◌>>=◌}
-use Rattle.lower.specs.Stored.{FormulaText, StoredText}
-use Rattle.lower.specs.Regions.{LaidText, count_of, is_i32, are_within, extent_between, may_have, extent_of, region_of, reach_of, laid_over, laid_by}
-use Rattle.lower.specs.Regions.{laid_within, laid_functions}
-use Rattle.lower.specs.Around.{AroundText}
-use Rattle.lower.specs.Bounded.{is_on_input, is_in_region, is_call_bounded, are_bounded, is_root_bounded}
-use Rattle.lower.specs.Faults.{with_laid, totals_with, is_shifted_little, pass_limits, unless_bounded, fault_within, fault_by, fault_of, or_later, fault_from}
-use Rattle.lower.proofs.Laying.{bound, same}
+use Rattle.sched.specs.Stored.{FormulaText, StoredText}
+use Rattle.sched.specs.Regions.{LaidText, count_of}
+use Rattle.regions.specs.Regions.{is_i32, are_within, extent_between, may_have, extent_of, region_of, reach_of, laid_over, laid_by}
+use Rattle.regions.specs.Regions.{laid_within, laid_functions}
+use Rattle.sched.specs.Around.{AroundText}
+use Rattle.blocks.specs.Bounded.{is_on_input, is_in_region, is_call_bounded, are_bounded, is_root_bounded}
+use Rattle.blocks.specs.Faults.{with_laid, totals_with, is_shifted_little, pass_limits, unless_bounded, fault_within}
+use Rattle.lower.specs.Faults.{fault_by, fault_of, or_later, fault_from}
+use Rattle.blocks.proofs.Laying.{bound, same}
 use Rattle.lower.proofs.Reached.{laid_found}
 use Rattle.completeness.proofs.Standing.{Taken}
 

@@ -29,7 +29,8 @@ use Rattle.bounds.specs.Interval.{span_named, coordinate_of, literal_of, both, i
 use Rattle.bounds.specs.Projection.Elimination.{is_inner, names_inner, bounds_itself, bounds_at, bounds_below, replacements_below, eliminated, both as both_bounds}
 use Rattle.bounds.specs.Projection.Projection.{negated, form_bounds, side_bounds, projected_span}
 use Rattle.sched.specs.Standing.{◌>>=◌}
-use Rattle.lower.specs.Regions.{number_of as lone_number, greater, less as less_of, greatest_number, least_number, symbols_from, ends_between, ends_of as freed_ends}
+use Rattle.regions.specs.Regions.{number_of as lone_number, greater, less as less_of, greatest_number, least_number, ends_between, ends_of as freed_ends}
+use Rattle.sched.specs.Regions.{symbols_from}
 use Rattle.completeness.proofs.PureScopes.{map_both}
 
 -- ---- forms

@@ -18,13 +18,15 @@ use Rattle.sched.specs.Placing.{PlacedText}
 use Rattle.sched.specs.Standing.{◌>>=◌}
 use Rattle.sched.specs.Skeleton.{BodyText, NestText, SkeletonText}
 use Rattle.sched.specs.Skeleton.{skeleton_in}
-use Rattle.lower.specs.Called.{called}
-use Rattle.lower.specs.Stored.{FormulaText, StoredText, calls_in, left_at}
-use Rattle.lower.specs.Around.{AroundText, form_span, coordinate_span, coordinates_behind, interval_in, left_around, around, head_scope}
-use Rattle.lower.specs.Regions.{symbols_from}
-use Rattle.lower.specs.Taken.{SiteText, add_spans, add_call, add_calls, with_site, add_site, add_asked, add_sites}
-use Rattle.lower.specs.Taken.{sites_of, freed, either, with_call, with_calls, with_sites, needed_span, is_number, add_symbolic, greatest_from, cut}
-use Rattle.lower.proofs.Laying.{bound, same}
+use Rattle.sched.specs.Called.{called}
+use Rattle.sched.specs.Stored.{FormulaText, StoredText, calls_in, left_at}
+use Rattle.sched.specs.Around.{AroundText, form_span, coordinate_span, coordinates_behind, interval_in, left_around, around, head_scope}
+use Rattle.sched.specs.Regions.{symbols_from}
+use Rattle.sched.specs.Taken.{SiteText}
+use Rattle.regions.specs.Taken.{add_spans, add_call, add_calls, with_site, add_site, add_asked, add_sites}
+use Rattle.regions.specs.Taken.{sites_of, either, with_call, with_calls, with_sites, needed_span, is_number, add_symbolic, greatest_from, cut}
+use Rattle.sched.specs.Taken.{freed}
+use Rattle.blocks.proofs.Laying.{bound, same}
 use Rattle.completeness.proofs.Rising.{Rises, AllRise, SpanRises, LowRises, interval_rises, projected_rises, choice_low}
 use Rattle.completeness.proofs.RisingSteps.{RisesIf, NestRises, nests_rise}
 

@@ -23,12 +23,14 @@ use Rattle.sched.specs.Placing.{PlacedText}
 use Rattle.sched.specs.Standing.{◌>>=◌}
 use Rattle.sched.specs.Skeleton.{BodyText, SkeletonText, skeleton_in}
 use Rattle.completeness.proofs.TakenSites.{Part}
-use Rattle.lower.specs.Stored.{FormulaText, StoredText}
-use Rattle.lower.specs.Bounded.{whole}
-use Rattle.lower.specs.Regions.{symbols_from}
-use Rattle.lower.specs.Taken.{SiteText, sites_of, freed, either, with_call, with_calls, with_sites, needed_span, is_number, add_symbolic, greatest_from, least_from, cut}
-use Rattle.lower.specs.Taken.{needed_part, shown, is_shown, places_count, seated, shortest, run_of, tight, or_all, part_of, taken_region}
-use Rattle.lower.proofs.Laying.{bound, same}
+use Rattle.sched.specs.Stored.{FormulaText, StoredText}
+use Rattle.sched.specs.Bounded.{whole}
+use Rattle.sched.specs.Regions.{symbols_from}
+use Rattle.sched.specs.Taken.{SiteText, freed}
+use Rattle.regions.specs.Taken.{sites_of, either, with_call, with_calls, with_sites, needed_span, is_number, add_symbolic, greatest_from, least_from, cut}
+use Rattle.regions.specs.Taken.{needed_part, shown, is_shown, seated, tight, or_all, part_of, taken_region}
+use Rattle.sched.specs.Taken.{places_count, shortest, run_of}
+use Rattle.blocks.proofs.Laying.{bound, same}
 use Rattle.completeness.proofs.Rising.{Rises, AllRise, SpanRises, combined_rises, union_rises, joined_rises, choice_rises, each_rise}
 use Rattle.completeness.proofs.RisingForms.{SiteRises, all_rise, symbolic_low}
 use Rattle.completeness.proofs.RisingSteps.{nests_rise}

@@ -26,8 +26,8 @@ use Rattle.sched.specs.Skeleton.{is_missing, variables_at, ranges_at, begun, nes
 use Rattle.sched.proofs.Rooting.{all_by_variable}
 use Rattle.sched.proofs.Standings.{all_more, found_all, stands_more, stands_last, Begins, stood, waits as waits_there, plainly, shifted, begins, Puts, freely, by_loop, by_guard, by_test}
 use Rattle.sched.proofs.Standings.{Joins, stays, puts, joins}
-use Rattle.lower.specs.Bodies.{step_lines}
-use Rattle.lower.proofs.Laying.{bound, same}
+use Rattle.blocks.specs.Bodies.{step_lines}
+use Rattle.blocks.proofs.Laying.{bound, same}
 use Rattle.completeness.proofs.Rising.{Rises, AllRise, SpanRises, combined_rises}
 use Rattle.completeness.proofs.Standing.{Within, at_grid}
 

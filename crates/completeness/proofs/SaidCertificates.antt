@@ -27,13 +27,18 @@ use Rattle.sched.specs.Schedule.{Schedule}
 use Rattle.sched.specs.Legal.{IsLegal}
 use Rattle.sched.specs.Skeleton.{NestText}
 use Rattle.lower.specs.declared.lowering.Lowered.{Lowered}
-use Rattle.lower.specs.Stored.{FormulaText, StoredText, stored_functions, flags, has_large}
-use Rattle.lower.specs.Faults.{are_whole, region_fault}
-use Rattle.lower.specs.Around.{grid_scope}
-use Rattle.lower.specs.Taken.{sites_of}
-use Rattle.lower.specs.Loading.{Loads}
-use Rattle.lower.specs.Bodies.{first_lines, AreNests}
-use Rattle.lower.specs.Fetches.{Entry, FetchText, Calls, AreFetched, fetched_groups}
+use Rattle.sched.specs.Stored.{FormulaText, StoredText}
+use Rattle.lower.specs.Stored.{stored_functions, has_large}
+use Rattle.blocks.specs.Stored.{flags}
+use Rattle.regions.specs.Faults.{are_whole}
+use Rattle.lower.specs.Faults.{region_fault}
+use Rattle.sched.specs.Around.{grid_scope}
+use Rattle.regions.specs.Taken.{sites_of}
+use Rattle.sched.specs.Loading.{Loads}
+use Rattle.blocks.specs.Bodies.{first_lines, AreNests}
+use Rattle.sched.specs.Fetches.{Entry}
+use Rattle.blocks.specs.Fetches.{FetchText}
+use Rattle.lower.specs.Fetches.{Calls, AreFetched, fetched_groups}
 use Rattle.lower.specs.Groups.{AreOwned, HasBody, line_behind, HaveBodies, HasGroups}
 use Rattle.completeness.specs.SaidCertificates.{has_numbers, CertificatesFitByNumbers}
 use Rattle.completeness.proofs.TermFits.{name_fits}

@@ -35,15 +35,22 @@ use Rattle.sched.specs.Runs.{lines_to}
 use Rattle.sched.specs.Skeleton.{NestText, SkeletonText}
 use Rattle.sched.specs.Standing.{◌>>=◌}
 use Rattle.lower.specs.declared.lowering.Lowered.{Lowered}
-use Rattle.lower.specs.Stored.{FormulaText, StoredText, stored_by, stored_functions, flags, has_large, put, left_put, lefts_put, pure_put, change_put, changes_put, formulas_put, is_small}
-use Rattle.lower.specs.Faults.{are_whole, region_fault}
-use Rattle.lower.specs.Around.{grid_scope, range_names, ranges_of, names_with}
-use Rattle.lower.specs.Taken.{sites_of}
-use Rattle.lower.specs.Loading.{Loads, last_of, name_by, loaded_name, as_load}
-use Rattle.lower.specs.Bodies.{first_lines, last_claim, first_left, other_lefts, IsIndex, AreCoordinates, IsStore, AreNests}
-use Rattle.lower.specs.Fetches.{Entry, FetchText, Calls, AreFetched, fetched_groups, loads_from, with_fetches}
+use Rattle.sched.specs.Stored.{FormulaText, StoredText}
+use Rattle.blocks.specs.Stored.{stored_by, flags, put, left_put, lefts_put, pure_put, change_put, changes_put, formulas_put, is_small}
+use Rattle.lower.specs.Stored.{stored_functions, has_large}
+use Rattle.regions.specs.Faults.{are_whole}
+use Rattle.lower.specs.Faults.{region_fault}
+use Rattle.sched.specs.Around.{grid_scope, range_names, ranges_of, names_with}
+use Rattle.regions.specs.Taken.{sites_of}
+use Rattle.sched.specs.Loading.{Loads, last_of, name_by, loaded_name, as_load}
+use Rattle.blocks.specs.Bodies.{first_lines, IsIndex, AreCoordinates, IsStore, AreNests}
+use Rattle.lower.specs.Bodies.{last_claim}
+use Rattle.sched.specs.Bodies.{first_left, other_lefts}
+use Rattle.sched.specs.Fetches.{Entry}
+use Rattle.blocks.specs.Fetches.{FetchText, with_fetches}
+use Rattle.lower.specs.Fetches.{Calls, AreFetched, fetched_groups, loads_from}
 use Rattle.lower.specs.Groups.{HasBody, HasGroups}
-use Rattle.lower.proofs.Laying.{bound, same}
+use Rattle.blocks.proofs.Laying.{bound, same}
 use Rattle.completeness.specs.Said.{IsCalledBy, IsSaid, IsIndexSaid, IsCoordinateSaid, IsStatementSaid, AreStatementsSaid, IsGroupSaid, IsPlanSaid, PlansAreSaid}
 use Rattle.completeness.proofs.Laid.{subjects, found}
 use Rattle.completeness.proofs.Bodies.{other_at, entry_at}

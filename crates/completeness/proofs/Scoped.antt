@@ -33,13 +33,17 @@ use Rattle.validation.specs.Groups.Inside.{Inside, InsideOne, StandsIn}
 use Rattle.validation.specs.Groups.Wrong.{NamesUnknown}
 use Rattle.validation.proofs.Wide.{contains_is, is_contained}
 use Rattle.lower.specs.declared.lowering.Lowered.{Lowered}
-use Rattle.lower.specs.Stored.{FormulaText, StoredText, stored_functions, has_large}
-use Rattle.lower.specs.Faults.{are_whole, region_fault}
-use Rattle.lower.specs.Regions.{bodies_from, skeleton_of}
-use Rattle.lower.specs.Loading.{Loads}
-use Rattle.lower.specs.Blocks.{dimensions_of, own_places}
-use Rattle.lower.specs.Bodies.{IsStore, AreNests, last_claim}
-use Rattle.lower.specs.Fetches.{Entry, FetchText, with_fetches}
+use Rattle.sched.specs.Stored.{FormulaText, StoredText}
+use Rattle.lower.specs.Stored.{stored_functions, has_large}
+use Rattle.regions.specs.Faults.{are_whole}
+use Rattle.lower.specs.Faults.{region_fault}
+use Rattle.regions.specs.Regions.{bodies_from, skeleton_of}
+use Rattle.sched.specs.Loading.{Loads}
+use Rattle.blocks.specs.Blocks.{dimensions_of, own_places}
+use Rattle.blocks.specs.Bodies.{IsStore, AreNests}
+use Rattle.lower.specs.Bodies.{last_claim}
+use Rattle.sched.specs.Fetches.{Entry}
+use Rattle.blocks.specs.Fetches.{FetchText, with_fetches}
 use Rattle.lower.specs.Groups.{HasBody, HasGroups}
 use Rattle.completeness.specs.Laws.{IsStep, StepLinesAreKnown}
 use Rattle.completeness.proofs.Only.{Only, AreOnly, SpanOnly}

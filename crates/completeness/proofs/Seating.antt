@@ -22,14 +22,16 @@ use Rattle.rules.specs.Bounding.Scopes.{most_symbols, scope_of}
 use Rattle.rules.specs.Bounding.Seats.{seats, is_seated_in}
 use Rattle.sched.specs.declared.numbers.Extent.{Extent}
 use Rattle.sched.specs.Standing.{◌>>=◌}
-use Rattle.lower.specs.Around.{grid_scope}
-use Rattle.lower.specs.Blocks.{difference}
-use Rattle.lower.specs.Bounded.{whole}
+use Rattle.sched.specs.Around.{grid_scope}
+use Rattle.sched.specs.Blocks.{difference}
+use Rattle.sched.specs.Bounded.{whole}
 use Rattle.lower.specs.Owning.{IsExtent}
-use Rattle.lower.specs.Windows.{size_below}
-use Rattle.lower.specs.Taken.{SiteText, needed_span, cut, at_least_one, shorter, shortest_from, shortest, run_of, hold_calls}
-use Rattle.lower.specs.Taken.{places_count, or_all, is_shown, shown, seated, needed_part, tight, part_of}
-use Rattle.lower.proofs.Laying.{bound, same}
+use Rattle.sched.specs.Windows.{size_below}
+use Rattle.sched.specs.Taken.{SiteText, at_least_one, shorter, shortest_from, shortest, run_of}
+use Rattle.regions.specs.Taken.{needed_span, cut, hold_calls}
+use Rattle.sched.specs.Taken.{places_count}
+use Rattle.regions.specs.Taken.{or_all, is_shown, shown, seated, needed_part, tight, part_of}
+use Rattle.blocks.proofs.Laying.{bound, same}
 use Rattle.completeness.proofs.Only.{Only, SpanOnly}
 use Rattle.completeness.proofs.Sited.{PlaceOnly}
 use Rattle.completeness.proofs.Widened.{Below, inside_same}

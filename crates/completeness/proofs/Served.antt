@@ -42,15 +42,21 @@ use Rattle.shares.specs.Needed.{need_grid, need_points, NeedIsInside, NeedsAreIn
 use Rattle.shares.specs.Boxes.{grid_sides, is_in_box}
 use Rattle.shares.specs.Has.{NeedsPieces}
 use Rattle.lower.specs.declared.lowering.Lowered.{Lowered}
-use Rattle.lower.specs.Stored.{FormulaText, StoredText, is_large, some_calls, stored_functions, has_large}
-use Rattle.lower.specs.Regions.{LaidText, symbols_from, laid_functions, bodies_from}
-use Rattle.lower.specs.Around.{grid_scope, grid_symbol, head_scope}
-use Rattle.lower.specs.Bounded.{whole}
-use Rattle.lower.specs.Blocks.{dimensions_of, owned_region}
-use Rattle.lower.specs.Faults.{are_whole, region_fault}
-use Rattle.lower.specs.Taken.{sites_of, taken_region}
-use Rattle.lower.specs.Needs.{pieces_needed}
-use Rattle.lower.specs.Fetches.{Entry, FetchText, LieIn, fetched_groups, with_fetches}
+use Rattle.sched.specs.Stored.{FormulaText, StoredText}
+use Rattle.regions.specs.Stored.{is_large, some_calls}
+use Rattle.lower.specs.Stored.{stored_functions, has_large}
+use Rattle.sched.specs.Regions.{LaidText, symbols_from}
+use Rattle.regions.specs.Regions.{laid_functions, bodies_from}
+use Rattle.sched.specs.Around.{grid_scope, grid_symbol, head_scope}
+use Rattle.sched.specs.Bounded.{whole}
+use Rattle.blocks.specs.Blocks.{dimensions_of, owned_region}
+use Rattle.regions.specs.Faults.{are_whole}
+use Rattle.lower.specs.Faults.{region_fault}
+use Rattle.regions.specs.Taken.{sites_of, taken_region}
+use Rattle.regions.specs.Needs.{pieces_needed}
+use Rattle.sched.specs.Fetches.{Entry}
+use Rattle.blocks.specs.Fetches.{FetchText, with_fetches}
+use Rattle.lower.specs.Fetches.{LieIn, fetched_groups}
 use Rattle.lower.specs.Groups.{HasGroups, roots_over}
 use Rattle.lower.specs.Owning.{IsOwned}
 use Rattle.lower.proofs.Extents.{regions_there}

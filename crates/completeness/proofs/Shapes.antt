@@ -24,14 +24,19 @@ use Rattle.sched.specs.declared.skeleton.Step.{Step}
 use Rattle.sched.specs.declared.skeleton.Step.TheVariants.{Turns, Named, Tested}
 use Rattle.sched.specs.Skeleton.{NestText}
 use Rattle.lower.specs.declared.lowering.Lowered.{Lowered}
-use Rattle.lower.specs.Stored.{FormulaText, StoredText, stored_functions, has_large}
-use Rattle.lower.specs.Around.{grid_scope}
-use Rattle.lower.specs.Faults.{are_whole, region_fault}
-use Rattle.lower.specs.Loading.{Loads}
-use Rattle.lower.specs.Blocks.{dimensions_of, claimed_region, own_places}
-use Rattle.lower.specs.Bodies.{last_claim, IsStore, AreNests, step_lines, first_lines}
-use Rattle.lower.specs.Fetches.{Entry, FetchText, Calls, AreFetched, fetched_groups, with_fetches, loads_from}
-use Rattle.lower.specs.Taken.{sites_of}
+use Rattle.sched.specs.Stored.{FormulaText, StoredText}
+use Rattle.lower.specs.Stored.{stored_functions, has_large}
+use Rattle.sched.specs.Around.{grid_scope}
+use Rattle.regions.specs.Faults.{are_whole}
+use Rattle.lower.specs.Faults.{region_fault}
+use Rattle.sched.specs.Loading.{Loads}
+use Rattle.blocks.specs.Blocks.{dimensions_of, claimed_region, own_places}
+use Rattle.lower.specs.Bodies.{last_claim}
+use Rattle.blocks.specs.Bodies.{IsStore, AreNests, step_lines, first_lines}
+use Rattle.sched.specs.Fetches.{Entry}
+use Rattle.blocks.specs.Fetches.{FetchText, with_fetches}
+use Rattle.lower.specs.Fetches.{Calls, AreFetched, fetched_groups, loads_from}
+use Rattle.regions.specs.Taken.{sites_of}
 use Rattle.lower.specs.Groups.{HasGroups}
 use Rattle.completeness.specs.Fitting.{IsSplitOnce, IsShaped}
 use Rattle.completeness.proofs.Counts.{fetches_few, roots_few}

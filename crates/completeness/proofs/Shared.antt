@@ -17,7 +17,8 @@ use Rattle.sched.specs.Legal.{IsLegal}
 use Rattle.headline.proofs.Regions.{at_in}
 use Rattle.lower.specs.declared.lowering.Lowered.{Lowered}
 use Rattle.lower.specs.Stored.{stored_functions, has_large}
-use Rattle.lower.specs.Faults.{are_whole, region_fault}
+use Rattle.regions.specs.Faults.{are_whole}
+use Rattle.lower.specs.Faults.{region_fault}
 use Rattle.lower.specs.Groups.{HasGroups}
 use Rattle.lower.specs.Heads.{IsHeadOf}
 use Rattle.soundness.specs.declared.outline.refusals.code.K.{K}

@@ -38,7 +38,8 @@ use Rattle.sched.specs.Schedule.{Schedule}
 use Rattle.sched.specs.Legal.{IsLegal}
 use Rattle.lower.specs.declared.lowering.Lowered.{Lowered}
 use Rattle.lower.specs.Stored.{stored_functions}
-use Rattle.lower.specs.Faults.{are_whole, region_fault}
+use Rattle.regions.specs.Faults.{are_whole}
+use Rattle.lower.specs.Faults.{region_fault}
 use Rattle.lower.specs.Refused.{AreSmall, AreRegionsKept}
 use Rattle.lower.specs.Groups.{AreGroupsMade}
 use Rattle.completeness.specs.Fitting.{SplitsOnce}

@@ -15,11 +15,15 @@ use Rattle.sched.specs.Legal.{IsLegal, said, loops_after}
 use Rattle.sched.specs.Numbers.{loop_numbers, is_too_short, has_short_shift}
 use Rattle.sched.specs.Placing.{is_shifted}
 use Rattle.algo.specs.Scoping.Standing.{Written}
-use Rattle.lower.specs.Stored.{FormulaText, StoredText, flags, stored_functions}
-use Rattle.lower.specs.Regions.{LaidText, laid_functions}
-use Rattle.lower.specs.Bounded.{is_root_bounded}
-use Rattle.lower.specs.Faults.{no_totals, with_laid, pass_limits, is_shifted_little, unless_bounded, fault_by, fault_of, totals_with, or_later, fault_from, calls_of_large, region_fault}
-use Rattle.lower.proofs.Laying.{same}
+use Rattle.sched.specs.Stored.{FormulaText, StoredText}
+use Rattle.blocks.specs.Stored.{flags}
+use Rattle.lower.specs.Stored.{stored_functions}
+use Rattle.sched.specs.Regions.{LaidText}
+use Rattle.regions.specs.Regions.{laid_functions}
+use Rattle.blocks.specs.Bounded.{is_root_bounded}
+use Rattle.lower.specs.Faults.{no_totals, fault_by, fault_of, or_later, fault_from, calls_of_large, region_fault}
+use Rattle.blocks.specs.Faults.{with_laid, pass_limits, is_shifted_little, unless_bounded, totals_with}
+use Rattle.blocks.proofs.Laying.{same}
 use Rattle.completeness.proofs.Standing.{Taken}
 use Rattle.completeness.proofs.LoopMoves.{or_none}
 use Rattle.completeness.proofs.Laid.{subjects, found}

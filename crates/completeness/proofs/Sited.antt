@@ -35,18 +35,21 @@ use Rattle.sched.specs.Placing.{is_parallel}
 use Rattle.sched.specs.Skeleton.{NestText, SkeletonText}
 use Rattle.sched.specs.Order.{Ordered, BindInOrder}
 use Rattle.sched.specs.Standing.{◌>>=◌, alone}
-use Rattle.lower.specs.Called.{called}
-use Rattle.lower.specs.Stored.{FormulaText, StoredText, calls_in, left_at}
-use Rattle.lower.specs.Around.{AroundText, anything, skip_to, bind, bind_steps, grid_scope, head_scope, left_around, form_span, coordinate_span, coordinates_behind, interval_in, around}
-use Rattle.lower.specs.Regions.{symbols_from}
-use Rattle.lower.specs.Blocks.{difference}
-use Rattle.lower.specs.Taken.{SiteText, add_spans, add_call, add_calls, with_site, add_site, add_asked, add_sites}
-use Rattle.lower.specs.Taken.{sites_of, freed, either, with_call, with_calls, with_sites, needed_span, is_number, add_symbolic}
-use Rattle.lower.specs.Taken.{greatest_from, least_from, cut, shortest, run_of, places_count, or_all, is_shown, shown, seated, needed_part, tight, part_of, taken_region, taken_places}
-use Rattle.lower.specs.Needs.{is_multiple, plus_part, plus_parts, divided, block_at, add_blocks, blocks_over, length_at}
-use Rattle.lower.specs.Needs.{low_at, turns_over, turns_found, turns_needed, or_all_turns, loops_needed, first_count, other_counts}
-use Rattle.lower.specs.Needs.{or_one_piece, pieces_needed}
-use Rattle.lower.proofs.Laying.{bound, same}
+use Rattle.sched.specs.Called.{called}
+use Rattle.sched.specs.Stored.{FormulaText, StoredText, calls_in, left_at}
+use Rattle.sched.specs.Around.{AroundText, anything, skip_to, bind, bind_steps, grid_scope, head_scope, left_around, form_span, coordinate_span, coordinates_behind, interval_in, around}
+use Rattle.sched.specs.Regions.{symbols_from}
+use Rattle.sched.specs.Blocks.{difference}
+use Rattle.sched.specs.Taken.{SiteText}
+use Rattle.regions.specs.Taken.{add_spans, add_call, add_calls, with_site, add_site, add_asked, add_sites}
+use Rattle.regions.specs.Taken.{sites_of, either, with_call, with_calls, with_sites, needed_span, is_number, add_symbolic}
+use Rattle.sched.specs.Taken.{freed}
+use Rattle.regions.specs.Taken.{greatest_from, least_from, cut, or_all, is_shown, shown, seated, needed_part, tight, part_of, taken_region, taken_places}
+use Rattle.sched.specs.Taken.{shortest, run_of, places_count}
+use Rattle.regions.specs.Needs.{is_multiple, plus_part, plus_parts, divided, block_at, add_blocks, blocks_over, length_at}
+use Rattle.regions.specs.Needs.{low_at, turns_over, turns_found, turns_needed, or_all_turns, loops_needed, first_count, other_counts}
+use Rattle.regions.specs.Needs.{or_one_piece, pieces_needed}
+use Rattle.blocks.proofs.Laying.{bound, same}
 use Rattle.completeness.proofs.Only.{Only, AreOnly, SpanOnly, BindsOnly, only_combined, choice_only, interval_only, projected_only}
 use Rattle.completeness.proofs.Standing.{Binds, Here, OnlyIf, OverGrid, NamesOwn}
 

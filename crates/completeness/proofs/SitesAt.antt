@@ -6,11 +6,12 @@ use Rattle.lin.specs.declared.span.Span1.{Span1}
 use Rattle.meaning.specs.Algorithm.{Algorithm}
 use Rattle.sched.specs.Standing.{◌>>=◌}
 use Rattle.sched.specs.Skeleton.{NestText}
-use Rattle.lower.specs.Stored.{FormulaText, StoredText, calls_in}
-use Rattle.lower.specs.Around.{AroundText, around}
-use Rattle.lower.specs.Bounded.{are_bounded, is_definition_bounded, is_bounded}
-use Rattle.lower.specs.Taken.{SiteText, add_calls, with_site, add_site, add_sites}
-use Rattle.lower.proofs.Laying.{bound, same}
+use Rattle.sched.specs.Stored.{FormulaText, StoredText, calls_in}
+use Rattle.sched.specs.Around.{AroundText, around}
+use Rattle.blocks.specs.Bounded.{are_bounded, is_definition_bounded, is_bounded}
+use Rattle.sched.specs.Taken.{SiteText}
+use Rattle.regions.specs.Taken.{add_calls, with_site, add_site, add_sites}
+use Rattle.blocks.proofs.Laying.{bound, same}
 use Rattle.completeness.proofs.TakenSites.{Has, has_last, sites_kept}
 
 module _ (a : Algorithm) (g : StoredText) (outer : List Binding) where

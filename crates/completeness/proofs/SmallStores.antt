@@ -22,11 +22,15 @@ use Rattle.sched.specs.declared.skeleton.Step.{Step}
 use Rattle.sched.specs.declared.skeleton.Step.TheVariants.{Turns, Named, Tested}
 use Rattle.sched.specs.Skeleton.{NestText}
 use Rattle.meaning.specs.Algorithm.{Algorithm}
-use Rattle.lower.specs.Stored.{FormulaText, StoredText, stored_functions}
-use Rattle.lower.specs.Loading.{Loads, as_load}
-use Rattle.lower.specs.Blocks.{dimensions_of, claimed_region, own_places}
-use Rattle.lower.specs.Bodies.{IsIndex, AreCoordinates, IsStore, AreNests, first_lines, last_claim}
-use Rattle.lower.specs.Fetches.{Entry, FetchText, with_fetches, loads_from}
+use Rattle.sched.specs.Stored.{FormulaText, StoredText}
+use Rattle.lower.specs.Stored.{stored_functions}
+use Rattle.sched.specs.Loading.{Loads, as_load}
+use Rattle.blocks.specs.Blocks.{dimensions_of, claimed_region, own_places}
+use Rattle.blocks.specs.Bodies.{IsIndex, AreCoordinates, IsStore, AreNests, first_lines}
+use Rattle.lower.specs.Bodies.{last_claim}
+use Rattle.sched.specs.Fetches.{Entry}
+use Rattle.blocks.specs.Fetches.{FetchText, with_fetches}
+use Rattle.lower.specs.Fetches.{loads_from}
 use Rattle.lower.specs.Groups.{HasBody, line_behind, HaveBodies}
 use Rattle.completeness.specs.OfPlans.{index_nodes, found_nodes, store_nodes, is_small_line, left_nodes, formula_nodes, StoresAreSmall}
 use Rattle.completeness.proofs.Served.{roots}

@@ -25,7 +25,7 @@ use Rattle.sched.specs.Skeleton.{BodyText, NestText, SkeletonText, span, enter, 
 use Rattle.sched.specs.Skeleton.{is_missing, variables_at, ranges_at, begun, nest_in, nest_of, nests_in, grid_forms, over_grid, skeleton_in}
 use Rattle.sched.proofs.Looping.{no_grid}
 use Rattle.sched.proofs.Standings.{all_more, found_all, Begins, stood, waits, plainly, shifted, begins, Puts, freely, by_loop, by_guard, by_test, Joins, stays, puts, joins}
-use Rattle.lower.proofs.Laying.{bound, same}
+use Rattle.blocks.proofs.Laying.{bound, same}
 use Rattle.completeness.proofs.Only.{Only, AreOnly, SpanOnly, only_combined}
 
 -- ---- what loops, lets and guards stand in

@@ -12,7 +12,7 @@ use Rattle.sched.specs.declared.nest.Turning.{Turning}
 use Rattle.sched.specs.declared.skeleton.Step.{Step}
 use Rattle.sched.specs.declared.skeleton.Step.TheVariants.{Turns, Named, Tested}
 use Rattle.sched.specs.Skeleton.{span}
-use Rattle.lower.specs.Around.{skip_to, bind, bind_steps}
+use Rattle.sched.specs.Around.{skip_to, bind, bind_steps}
 use Rattle.completeness.proofs.Standing.{Rises}
 use Rattle.completeness.proofs.StoreBounds.{steps_keep}
 use Rattle.completeness.proofs.TailSteps.{Line, Loop, Block, Pair}

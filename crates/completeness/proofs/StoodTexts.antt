@@ -15,10 +15,12 @@ use Rattle.sched.specs.Numbers.{loop_numbers, parallel_loops}
 use Rattle.sched.specs.Skeleton.{SkeletonText, grid_forms}
 use Rattle.sched.specs.declared.skeleton.Known.{Known}
 use Rattle.lower.specs.declared.lowering.Lowered.{Lowered}
-use Rattle.lower.specs.Stored.{StoredText, stored_functions, has_large}
-use Rattle.lower.specs.Faults.{are_whole, region_fault}
-use Rattle.lower.specs.Blocks.{dimensions_of, claimed_region, own_places}
-use Rattle.lower.specs.Fetches.{Entry}
+use Rattle.sched.specs.Stored.{StoredText}
+use Rattle.lower.specs.Stored.{stored_functions, has_large}
+use Rattle.regions.specs.Faults.{are_whole}
+use Rattle.lower.specs.Faults.{region_fault}
+use Rattle.blocks.specs.Blocks.{dimensions_of, claimed_region, own_places}
+use Rattle.sched.specs.Fetches.{Entry}
 use Rattle.lower.specs.Groups.{HasBody, HasGroups}
 use Rattle.completeness.specs.Fitting.{IsSplitOnce}
 use Rattle.completeness.proofs.FewLines.{stood}

@@ -35,16 +35,16 @@ use Rattle.soundness.specs.Binders.View.{grid_span}
 use Rattle.rules.specs.Bounding.Called.{called}
 use Rattle.rules.specs.Bounding.Scopes.{scope_of}
 use Rattle.rules.specs.Bounding.Rules.{is_index_span, or_anything, is_bounded_in, rules_of}
-use Rattle.lower.proofs.Laying.{bound, same}
+use Rattle.blocks.proofs.Laying.{bound, same}
 use Rattle.sched.specs.Standing.{counted_from, alone}
 use Rattle.sched.specs.declared.skeleton.Step.{Step}
 use Rattle.sched.specs.declared.skeleton.Step.TheVariants.{Turns, Named, Tested}
 use Rattle.plan.specs.declared.stmt.Pick.TheVariants.{Min, Max}
-use Rattle.lower.specs.Called.{function_call, input_call, or_input, called as called_there}
-use Rattle.lower.specs.Around.{AroundText, anything as anywhere, skip_to, bind, bind_steps, interval_in}
-use Rattle.lower.specs.Bounded.{is_on_input}
-use Rattle.lower.specs.Taken.{add_spans}
-use Rattle.lower.specs.Loading.{Loads, loaded_name, as_load}
+use Rattle.sched.specs.Called.{function_call, input_call, or_input, called as called_there}
+use Rattle.sched.specs.Around.{AroundText, anything as anywhere, skip_to, bind, bind_steps, interval_in}
+use Rattle.blocks.specs.Bounded.{is_on_input}
+use Rattle.regions.specs.Taken.{add_spans}
+use Rattle.sched.specs.Loading.{Loads, loaded_name, as_load}
 use Rattle.completeness.proofs.LoadedTerms.{Same, type_same, interval_same}
 use Rattle.completeness.proofs.Searched.{symbol_over, symbol_below, counted_over, counted_under}
 

@@ -47,15 +47,23 @@ use Rattle.validation.specs.Stored.Definitions.{Parts, parts_of, parts_named, De
 use Rattle.validation.specs.Groups.Wrong.{IsOutside, LacksVariables, IndexNamesOther, Mentions, IndexMentions, IsUnnamed, IsUnknownSource, IsUnknownCall, StoresUnknown}
 use Rattle.validation.proofs.Wide.{contains_is}
 use Rattle.lower.specs.declared.lowering.Lowered.{Lowered}
-use Rattle.lower.specs.Stored.{FormulaText, StoredText, calls_in, are_calls_of, some_calls, stored_by, stored_functions, flags, has_large}
-use Rattle.lower.specs.Regions.{bodies_from}
-use Rattle.lower.specs.Faults.{are_whole, region_fault}
-use Rattle.lower.specs.Around.{range_names, ranges_of, grid_scope, names_with}
-use Rattle.lower.specs.Taken.{sites_of}
-use Rattle.lower.specs.Loading.{Loads, last_of, name_by, loaded_name, as_load}
-use Rattle.lower.specs.Blocks.{lay_over, dimensions_of, own_places}
-use Rattle.lower.specs.Bodies.{first_left, other_lefts, IsIndex, AreCoordinates, IsStored, first_lines, last_claim}
-use Rattle.lower.specs.Fetches.{Entry, is_fetched, fetched_groups, loads_from, with_fetches}
+use Rattle.sched.specs.Stored.{FormulaText, StoredText, calls_in, are_calls_of}
+use Rattle.regions.specs.Stored.{some_calls}
+use Rattle.blocks.specs.Stored.{stored_by, flags}
+use Rattle.lower.specs.Stored.{stored_functions, has_large}
+use Rattle.regions.specs.Regions.{bodies_from}
+use Rattle.regions.specs.Faults.{are_whole}
+use Rattle.lower.specs.Faults.{region_fault}
+use Rattle.sched.specs.Around.{range_names, ranges_of, grid_scope, names_with}
+use Rattle.regions.specs.Taken.{sites_of}
+use Rattle.sched.specs.Loading.{Loads, last_of, name_by, loaded_name, as_load}
+use Rattle.blocks.specs.Blocks.{lay_over, dimensions_of, own_places}
+use Rattle.sched.specs.Bodies.{first_left, other_lefts}
+use Rattle.blocks.specs.Bodies.{IsIndex, AreCoordinates, IsStored, first_lines}
+use Rattle.lower.specs.Bodies.{last_claim}
+use Rattle.sched.specs.Fetches.{Entry}
+use Rattle.lower.specs.Fetches.{is_fetched, fetched_groups, loads_from}
+use Rattle.blocks.specs.Fetches.{with_fetches}
 use Rattle.lower.specs.Groups.{HasBody, HasGroups}
 use Rattle.completeness.specs.Laws.{IsStore, NamesNoLoad, AreLinesTold, StoreLinesAreKnown}
 use Rattle.completeness.proofs.Standing.{OnlyIf, OverGrid, names_own, nest_shape}

@@ -30,16 +30,17 @@ use Rattle.sched.specs.declared.numbers.Numbers.{Numbers}
 use Rattle.sched.specs.declared.numbers.Extent.{Extent}
 use Rattle.sched.specs.Numbers.{numbers_named}
 use Rattle.sched.specs.Standing.{◌>>=◌}
-use Rattle.lower.specs.Called.{called}
-use Rattle.lower.specs.Stored.{FormulaText, left_at}
-use Rattle.lower.specs.Regions.{counts}
-use Rattle.lower.specs.Around.{AroundText, interval_in, form_span, coordinate_span, coordinates_behind}
-use Rattle.lower.specs.Bounded.{is_on_input, is_place_bounded, is_in_region}
-use Rattle.lower.specs.Taken.{add_spans}
-use Rattle.lower.specs.Loading.{Loads, as_load}
-use Rattle.lower.specs.Bodies.{first_left, other_lefts, IsIndex, AreCoordinates}
+use Rattle.sched.specs.Called.{called}
+use Rattle.sched.specs.Stored.{FormulaText, left_at}
+use Rattle.sched.specs.Regions.{counts}
+use Rattle.sched.specs.Around.{AroundText, interval_in, form_span, coordinate_span, coordinates_behind}
+use Rattle.blocks.specs.Bounded.{is_on_input, is_place_bounded, is_in_region}
+use Rattle.regions.specs.Taken.{add_spans}
+use Rattle.sched.specs.Loading.{Loads, as_load}
+use Rattle.sched.specs.Bodies.{first_left, other_lefts}
+use Rattle.blocks.specs.Bodies.{IsIndex, AreCoordinates}
 use Rattle.lower.proofs.Covering.{NumbersAre}
-use Rattle.lower.proofs.Laying.{bound, same}
+use Rattle.blocks.proofs.Laying.{bound, same}
 use Rattle.completeness.specs.Placed.{index_at}
 use Rattle.completeness.proofs.StoreBounds.{AreAt, IsAt}
 

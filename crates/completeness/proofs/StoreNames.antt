@@ -45,15 +45,22 @@ use Rattle.sched.specs.Subjects.{reductions_of}
 use Rattle.sched.specs.Runs.{lines_to}
 use Rattle.sched.specs.Skeleton.{NestText, SkeletonText}
 use Rattle.lower.specs.declared.lowering.Lowered.{Lowered}
-use Rattle.lower.specs.Stored.{FormulaText, StoredText, calls_in, are_calls_of, some_calls, stored_functions, has_large}
-use Rattle.lower.specs.Regions.{bodies_from}
-use Rattle.lower.specs.Faults.{are_whole, region_fault}
-use Rattle.lower.specs.Around.{grid_scope, names_with}
-use Rattle.lower.specs.Taken.{sites_of}
-use Rattle.lower.specs.Loading.{Loads, last_of, name_by, loaded_name, as_load}
-use Rattle.lower.specs.Blocks.{dimensions_of, claimed_region, own_places}
-use Rattle.lower.specs.Bodies.{first_left, other_lefts, IsIndex, AreCoordinates, IsStored, step_lines, first_lines, last_claim, IsStore, AreNests}
-use Rattle.lower.specs.Fetches.{Entry, FetchText, Calls, IsFetched, AreFetched, fetched_groups, loads_from, with_fetches}
+use Rattle.sched.specs.Stored.{FormulaText, StoredText, calls_in, are_calls_of}
+use Rattle.regions.specs.Stored.{some_calls}
+use Rattle.lower.specs.Stored.{stored_functions, has_large}
+use Rattle.regions.specs.Regions.{bodies_from}
+use Rattle.regions.specs.Faults.{are_whole}
+use Rattle.lower.specs.Faults.{region_fault}
+use Rattle.sched.specs.Around.{grid_scope, names_with}
+use Rattle.regions.specs.Taken.{sites_of}
+use Rattle.sched.specs.Loading.{Loads, last_of, name_by, loaded_name, as_load}
+use Rattle.blocks.specs.Blocks.{dimensions_of, claimed_region, own_places}
+use Rattle.sched.specs.Bodies.{first_left, other_lefts}
+use Rattle.blocks.specs.Bodies.{IsIndex, AreCoordinates, IsStored, step_lines, first_lines, IsStore, AreNests}
+use Rattle.lower.specs.Bodies.{last_claim}
+use Rattle.sched.specs.Fetches.{Entry}
+use Rattle.blocks.specs.Fetches.{FetchText, with_fetches}
+use Rattle.lower.specs.Fetches.{Calls, IsFetched, AreFetched, fetched_groups, loads_from}
 use Rattle.lower.specs.Groups.{HasBody, HasGroups}
 use Rattle.completeness.specs.Laws.{NamesNoLoad, AreLinesTold}
 use Rattle.completeness.specs.Laws.{IsStore as IsStoreLine}

@@ -30,14 +30,20 @@ use Rattle.sched.specs.declared.skeleton.Step.{Step}
 use Rattle.sched.specs.declared.skeleton.Step.TheVariants.{Turns, Named, Tested}
 use Rattle.sched.specs.Skeleton.{NestText, SkeletonText}
 use Rattle.lower.specs.declared.lowering.Lowered.{Lowered}
-use Rattle.lower.specs.Stored.{FormulaText, StoredText, stored_by, stored_functions, flags, has_large}
-use Rattle.lower.specs.Faults.{are_whole, region_fault}
-use Rattle.lower.specs.Regions.{bodies_from}
+use Rattle.sched.specs.Stored.{FormulaText, StoredText}
+use Rattle.blocks.specs.Stored.{stored_by, flags}
+use Rattle.lower.specs.Stored.{stored_functions, has_large}
+use Rattle.regions.specs.Faults.{are_whole}
+use Rattle.lower.specs.Faults.{region_fault}
+use Rattle.regions.specs.Regions.{bodies_from}
 use Rattle.lower.specs.Owning.{IsLaidBy}
-use Rattle.lower.specs.Loading.{Loads}
-use Rattle.lower.specs.Blocks.{dimensions_of, own_places}
-use Rattle.lower.specs.Bodies.{last_claim, IsStore, AreNests}
-use Rattle.lower.specs.Fetches.{Entry, FetchText, Calls, AreFetched, with_fetches}
+use Rattle.sched.specs.Loading.{Loads}
+use Rattle.blocks.specs.Blocks.{dimensions_of, own_places}
+use Rattle.lower.specs.Bodies.{last_claim}
+use Rattle.blocks.specs.Bodies.{IsStore, AreNests}
+use Rattle.sched.specs.Fetches.{Entry}
+use Rattle.blocks.specs.Fetches.{FetchText, with_fetches}
+use Rattle.lower.specs.Fetches.{Calls, AreFetched}
 use Rattle.lower.specs.Groups.{HasBody, HasGroups}
 use Rattle.completeness.specs.Laws.{IsStore as IsStoreLine}
 use Rattle.completeness.specs.Owed.{EachLine, EachOf, BindBelow, AllBindBelow, AreSymbolsFew}
@@ -53,7 +59,7 @@ use Rattle.plan.specs.declared.stmt.Pick.{Pick}
 use Rattle.plan.specs.declared.stmt.Pick.TheVariants.{Min, Max}
 use Rattle.soundness.specs.Obligations.{Binder, Picked, more_binders}
 use Rattle.rules.specs.Bounding.Scopes.{scope_of}
-use Rattle.lower.specs.Around.{bind, bind_step, bind_steps, grid_scope, head_scope}
+use Rattle.sched.specs.Around.{bind, bind_step, bind_steps, grid_scope, head_scope}
 use Rattle.completeness.proofs.Limited.{StepIs, IsChoice, IsNestLimited, IsLimited}
 use Rattle.completeness.proofs.GridCounts.{IsShort}
 use Rattle.completeness.proofs.PureScopes.{loop_scope, let_more, grid_is, count_from}

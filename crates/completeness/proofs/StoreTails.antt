@@ -55,15 +55,18 @@ use Rattle.sched.specs.Standing.{form_named, alone, counted_from, has_rest, room
 use Rattle.sched.specs.Skeleton.{BodyText, NestText, SkeletonText, nest_turns, ranges_at, variables_at, grid_forms, range_turning}
 use Rattle.sched.proofs.Standings.{found_all}
 use Rattle.lower.specs.declared.lowering.Lowered.{Lowered}
-use Rattle.lower.specs.Stored.{FormulaText, StoredText, flags, stored_functions, has_large}
-use Rattle.lower.specs.Faults.{are_whole, region_fault}
-use Rattle.lower.specs.Around.{bind_steps, grid_scope, head_scope, range_names, ranges_of, grid_symbol}
+use Rattle.sched.specs.Stored.{FormulaText, StoredText}
+use Rattle.blocks.specs.Stored.{flags}
+use Rattle.lower.specs.Stored.{stored_functions, has_large}
+use Rattle.regions.specs.Faults.{are_whole}
+use Rattle.lower.specs.Faults.{region_fault}
+use Rattle.sched.specs.Around.{bind_steps, grid_scope, head_scope, range_names, ranges_of, grid_symbol}
 use Rattle.lower.specs.Owning.{IsLaidBy}
-use Rattle.lower.specs.Regions.{bodies_from, missing_from}
+use Rattle.regions.specs.Regions.{bodies_from, missing_from}
 use Rattle.lower.specs.Groups.{HasBody, HasGroups}
 use Rattle.lower.proofs.Blocking.{IsSmall}
 use Rattle.lower.proofs.Covering.{NumbersAre}
-use Rattle.lower.specs.Blocks.{dimension_of, lay_over}
+use Rattle.blocks.specs.Blocks.{dimension_of, lay_over}
 use Rattle.lower.proofs.Owners as owners
 use Rattle.completeness.specs.Laws.{AreSplitOnce}
 use Rattle.completeness.specs.Parted.{KeepsInner}

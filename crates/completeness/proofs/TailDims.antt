@@ -12,8 +12,9 @@ use Rattle.sched.specs.declared.schedule.Tail.TheVariants.{Guard, Roundup, Shift
 use Rattle.sched.specs.declared.numbers.Numbers.{Numbers}
 use Rattle.sched.specs.Numbers.{numbers_named, last_number}
 use Rattle.sched.specs.Standing.{form_named, has_rest, counted_from}
-use Rattle.lower.specs.Blocks.{sum, difference, product, stepped, multiple_from, raised, factor_of, split_end, split_claim_end, end_of, BlockText, Run, LayText, own_last, claim_last}
-use Rattle.lower.specs.Blocks.{with_last, reach_over, places_by, block_span, blocks_by, dimension_by}
+use Rattle.blocks.specs.Blocks.{sum, product, stepped, multiple_from, raised, split_end, split_claim_end, end_of, BlockText, Run, LayText, own_last, claim_last}
+use Rattle.sched.specs.Blocks.{difference, factor_of}
+use Rattle.blocks.specs.Blocks.{with_last, reach_over, places_by, block_span, blocks_by, dimension_by}
 use Rattle.lower.proofs.Blocking.{IsSmall, CutFits}
 use Rattle.lower.proofs.Dividing.{nearest, nearest_of_small}
 use Rattle.completeness.specs.Blocked.{is_tailed}

@@ -10,7 +10,8 @@ use Rattle.sched.specs.declared.schedule.Tail.TheVariants.{Guard, Roundup, Shift
 use Rattle.sched.specs.declared.numbers.Numbers.{Numbers}
 use Rattle.sched.specs.Numbers.{numbers_named, last_number}
 use Rattle.sched.specs.Standing.{counted_from}
-use Rattle.lower.specs.Blocks.{sum, difference, product, stepped, multiple_from, raised, factor_of, split_end, split_claim_end, BlockText, block_span, reach_over}
+use Rattle.blocks.specs.Blocks.{sum, product, stepped, multiple_from, raised, split_end, split_claim_end, BlockText, block_span, reach_over}
+use Rattle.sched.specs.Blocks.{difference, factor_of}
 use Rattle.lower.proofs.Blocking.{IsSmall, CutFits}
 use Rattle.lower.proofs.Dividing.{nearest, nearest_of_small}
 use Rattle.completeness.proofs.BlockDims.{top, blocks_top, top_low}

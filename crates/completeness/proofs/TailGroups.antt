@@ -45,14 +45,20 @@ use Rattle.sched.specs.Standing.{form_named, counted_from, has_rest}
 use Rattle.sched.specs.Skeleton.{BodyText, SkeletonText, loop_turning, grid_forms}
 use Rattle.sched.proofs.Leading.{in_left, in_right}
 use Rattle.lower.specs.declared.lowering.Lowered.{Lowered}
-use Rattle.lower.specs.Stored.{FormulaText, StoredText, flags, stored_functions, has_large}
-use Rattle.lower.specs.Faults.{are_whole, region_fault}
-use Rattle.lower.specs.Regions.{count_of, missing_from, body_by, bodies_from}
+use Rattle.sched.specs.Stored.{FormulaText, StoredText}
+use Rattle.blocks.specs.Stored.{flags}
+use Rattle.lower.specs.Stored.{stored_functions, has_large}
+use Rattle.regions.specs.Faults.{are_whole}
+use Rattle.lower.specs.Faults.{region_fault}
+use Rattle.sched.specs.Regions.{count_of}
+use Rattle.regions.specs.Regions.{missing_from, body_by, bodies_from}
 use Rattle.lower.specs.Owning.{IsExtent, IsLaidBy}
-use Rattle.lower.specs.Blocks.{LayText, Whole, Run, sum, difference, multiple_from, is_parallel_named, alone_by, uncut, joined, lay_over, dimension_by, dimension_of}
-use Rattle.lower.specs.Blocks.{part_of, places_from, dimensions_of, claimed_region, own_places, BlockText, blocks_by}
+use Rattle.blocks.specs.Blocks.{LayText, Whole, Run, sum, multiple_from, is_parallel_named, alone_by, uncut, joined, lay_over, dimension_by, dimension_of}
+use Rattle.sched.specs.Blocks.{difference}
+use Rattle.blocks.specs.Blocks.{part_of, places_from, dimensions_of, claimed_region, own_places, BlockText, blocks_by}
 use Rattle.lower.specs.Bodies.{last_claim}
-use Rattle.lower.specs.Fetches.{Entry, with_fetches}
+use Rattle.sched.specs.Fetches.{Entry}
+use Rattle.blocks.specs.Fetches.{with_fetches}
 use Rattle.lower.specs.Groups.{HasBody, HasGroups}
 use Rattle.lower.proofs.Blocking.{IsSmall, CutFits}
 use Rattle.lower.proofs.Covering.{NumbersAre}

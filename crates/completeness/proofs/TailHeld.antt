@@ -37,15 +37,18 @@ use Rattle.sched.specs.Placing.{is_parallel}
 use Rattle.sched.specs.Standing.{form_named, counted_from}
 use Rattle.sched.specs.Skeleton.{BodyText, NestText, SkeletonText, range_turning, loop_turning, nest_turns, variables_at, ranges_at, grid_forms}
 use Rattle.lower.specs.declared.lowering.Lowered.{Lowered}
-use Rattle.lower.specs.Stored.{FormulaText, StoredText, stored_functions, has_large, calls_in}
-use Rattle.lower.specs.Faults.{are_whole, region_fault}
-use Rattle.lower.specs.Around.{bind_steps, grid_symbol, grid_scope, head_scope, range_names, ranges_of, AroundText, around}
+use Rattle.sched.specs.Stored.{FormulaText, StoredText, calls_in}
+use Rattle.lower.specs.Stored.{stored_functions, has_large}
+use Rattle.regions.specs.Faults.{are_whole}
+use Rattle.lower.specs.Faults.{region_fault}
+use Rattle.sched.specs.Around.{bind_steps, grid_symbol, grid_scope, head_scope, range_names, ranges_of, AroundText, around}
 use Rattle.lower.specs.Owning.{IsExtent, IsLaidBy}
-use Rattle.lower.specs.Regions.{LaidText, bodies_from, skeleton_of, laid_functions}
+use Rattle.sched.specs.Regions.{LaidText}
+use Rattle.regions.specs.Regions.{bodies_from, skeleton_of, laid_functions}
 use Rattle.lower.specs.Groups.{HasBody, HasGroups}
 use Rattle.lower.proofs.Blocking.{IsSmall, CutFits}
 use Rattle.lower.proofs.Covering.{NumbersAre}
-use Rattle.lower.proofs.Laying.{same}
+use Rattle.blocks.proofs.Laying.{same}
 use Rattle.lower.proofs.Owners as owners
 use Rattle.completeness.specs.Laws.{AreSplitOnce}
 use Rattle.completeness.specs.Parted.{KeepsInner}

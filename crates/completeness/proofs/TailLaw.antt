@@ -42,16 +42,20 @@ use Rattle.tails.specs.Maps.{covers}
 use Rattle.tails.specs.Apart.{index_form, form_of}
 use Rattle.tails.specs.Nests.{makes_by}
 use Rattle.lower.specs.declared.lowering.Lowered.{Lowered}
-use Rattle.lower.specs.Stored.{FormulaText, StoredText, stored_functions, has_large}
-use Rattle.lower.specs.Faults.{are_whole, region_fault}
-use Rattle.lower.specs.Regions.{bodies_from}
-use Rattle.lower.specs.Around.{names_with}
+use Rattle.sched.specs.Stored.{FormulaText, StoredText}
+use Rattle.lower.specs.Stored.{stored_functions, has_large}
+use Rattle.regions.specs.Faults.{are_whole}
+use Rattle.lower.specs.Faults.{region_fault}
+use Rattle.regions.specs.Regions.{bodies_from}
+use Rattle.sched.specs.Around.{names_with}
 use Rattle.lower.specs.Owning.{IsLaidBy}
-use Rattle.lower.specs.Loading.{Loads}
-use Rattle.lower.specs.Blocks.{LayText, lay_over, dimension_of}
-use Rattle.lower.specs.Blocks.{dimensions_of, claimed_region, own_places}
-use Rattle.lower.specs.Bodies.{first_left, other_lefts, AreCoordinates, IsStore}
-use Rattle.lower.specs.Fetches.{Entry as Fetched, Claims}
+use Rattle.sched.specs.Loading.{Loads}
+use Rattle.blocks.specs.Blocks.{LayText, lay_over, dimension_of}
+use Rattle.blocks.specs.Blocks.{dimensions_of, claimed_region, own_places}
+use Rattle.sched.specs.Bodies.{first_left, other_lefts}
+use Rattle.blocks.specs.Bodies.{AreCoordinates, IsStore}
+use Rattle.sched.specs.Fetches.{Entry as Fetched}
+use Rattle.blocks.specs.Fetches.{Claims}
 use Rattle.lower.specs.Groups.{HasBody, HasGroups}
 use Rattle.completeness.specs.Laws.{AreSplitOnce}
 use Rattle.completeness.specs.Parted.{KeepsInner}
@@ -62,7 +66,7 @@ use Rattle.completeness.proofs.Owned.{some_same}
 use Rattle.completeness.proofs.PureNests.{index_at}
 use Rattle.meaning.specs.Conditions.{AreDistinct}
 use Rattle.sched.specs.Skeleton.{range_turning}
-use Rattle.lower.specs.Around.{range_names}
+use Rattle.sched.specs.Around.{range_names}
 use Rattle.completeness.proofs.BlockNests.{stored_there}
 use Rattle.completeness.proofs.TailGroups as group
 use Rattle.sched.specs.Numbers.{is_too_short}

@@ -29,7 +29,7 @@ use Rattle.sched.specs.declared.skeleton.Step.TheVariants.{Turns, Named, Tested}
 use Rattle.sched.specs.Numbers.{numbers_named, last_number}
 use Rattle.sched.specs.Standing.{form_named, alone, counted_from, room}
 use Rattle.sched.specs.Skeleton.{span}
-use Rattle.lower.specs.Around.{grid_symbol, grid_scope, bind_steps}
+use Rattle.sched.specs.Around.{grid_symbol, grid_scope, bind_steps}
 use Rattle.lower.proofs.Blocking.{IsSmall, CutFits}
 use Rattle.completeness.proofs.Halves.{AreOthers, by_inner, inner_outer}
 use Rattle.completeness.proofs.Lanes.{AreOnce}

@@ -44,14 +44,17 @@ use Rattle.sched.proofs.Standings.{Stands, found_all}
 use Rattle.sched.proofs.Rooting.{IsHeld}
 use Rattle.tails.specs.Apart.{index_form, form_of}
 use Rattle.lower.specs.declared.lowering.Lowered.{Lowered}
-use Rattle.lower.specs.Stored.{FormulaText, StoredText, stored_functions, has_large}
-use Rattle.lower.specs.Faults.{are_whole, region_fault}
-use Rattle.lower.specs.Regions.{bodies_from}
+use Rattle.sched.specs.Stored.{FormulaText, StoredText}
+use Rattle.lower.specs.Stored.{stored_functions, has_large}
+use Rattle.regions.specs.Faults.{are_whole}
+use Rattle.lower.specs.Faults.{region_fault}
+use Rattle.regions.specs.Regions.{bodies_from}
 use Rattle.lower.specs.Owning.{IsLaidBy}
-use Rattle.lower.specs.Loading.{Loads}
-use Rattle.lower.specs.Blocks.{LayText, lay_over, dimension_of}
-use Rattle.lower.specs.Bodies.{IsIndex, first_left, other_lefts, AreCoordinates}
-use Rattle.lower.specs.Fetches.{Entry as Fetched}
+use Rattle.sched.specs.Loading.{Loads}
+use Rattle.blocks.specs.Blocks.{LayText, lay_over, dimension_of}
+use Rattle.blocks.specs.Bodies.{IsIndex, AreCoordinates}
+use Rattle.sched.specs.Bodies.{first_left, other_lefts}
+use Rattle.sched.specs.Fetches.{Entry as Fetched}
 use Rattle.lower.specs.Groups.{HasBody, HasGroups}
 use Rattle.lower.proofs.Blocking.{IsSmall, CutFits}
 use Rattle.lower.proofs.Owners as owners
@@ -70,7 +73,7 @@ use Rattle.meaning.specs.Algorithm.{Range}
 use Rattle.meaning.specs.Conditions.{AreDistinct, IsRange}
 use Rattle.sched.specs.Skeleton.{range_turning}
 use Rattle.tails.specs.Updates.{forms_in, at_forms}
-use Rattle.lower.specs.Around.{range_names}
+use Rattle.sched.specs.Around.{range_names}
 use Rattle.headline.proofs.Lists.{at_left}
 use Rattle.completeness.proofs.PlainTurns.{found_at, found_some, found_there}
 use Rattle.completeness.proofs.UpdateTurns.{range_name}

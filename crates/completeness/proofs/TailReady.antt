@@ -37,7 +37,7 @@ use Rattle.sched.specs.declared.skeleton.Step.TheVariants.{Named}
 use Rattle.sched.specs.Numbers.{numbers_named, parallel_loops, last_number}
 use Rattle.sched.specs.Standing.{form_named, alone, counted_from, has_rest, room}
 use Rattle.sched.specs.Skeleton.{span}
-use Rattle.lower.specs.Around.{grid_symbol}
+use Rattle.sched.specs.Around.{grid_symbol}
 use Rattle.lower.proofs.Blocking.{IsSmall, CutFits}
 use Rattle.completeness.specs.Blocked.{is_tailed}
 use Rattle.completeness.proofs.Halves.{AreOthers, by_whole, by_inner, inner_outer}

@@ -31,12 +31,14 @@ use Rattle.sched.specs.Placing.{is_parallel}
 use Rattle.sched.specs.Standing.{form_named}
 use Rattle.sched.specs.Skeleton.{BodyText, SkeletonText, nest_turns, grid_forms}
 use Rattle.lower.specs.declared.lowering.Lowered.{Lowered}
-use Rattle.lower.specs.Stored.{FormulaText, StoredText, stored_functions, has_large}
-use Rattle.lower.specs.Faults.{are_whole, region_fault}
-use Rattle.lower.specs.Regions.{bodies_from}
+use Rattle.sched.specs.Stored.{FormulaText, StoredText}
+use Rattle.lower.specs.Stored.{stored_functions, has_large}
+use Rattle.regions.specs.Faults.{are_whole}
+use Rattle.lower.specs.Faults.{region_fault}
+use Rattle.regions.specs.Regions.{bodies_from}
 use Rattle.lower.specs.Owning.{IsLaidBy}
-use Rattle.lower.specs.Blocks.{LayText, lay_over, dimension_of}
-use Rattle.lower.specs.Fetches.{Entry as Fetched}
+use Rattle.blocks.specs.Blocks.{LayText, lay_over, dimension_of}
+use Rattle.sched.specs.Fetches.{Entry as Fetched}
 use Rattle.lower.specs.Groups.{HasBody, HasGroups}
 use Rattle.lower.proofs.Blocking.{IsSmall, CutFits}
 use Rattle.lower.proofs.Directed.{IsLeaf}
@@ -54,7 +56,7 @@ use Rattle.completeness.proofs.BlockFacts.{serial_none}
 use Rattle.meaning.specs.Algorithm.{Range}
 use Rattle.meaning.specs.Conditions.{AreDistinct, IsRange}
 use Rattle.sched.specs.Skeleton.{range_turning}
-use Rattle.lower.specs.Around.{range_names}
+use Rattle.sched.specs.Around.{range_names}
 use Rattle.completeness.proofs.Laid.{none_twice}
 use Rattle.completeness.proofs.PlainTurns.{hits_append, found_some, found_there}
 use Rattle.completeness.proofs.UpdateTurns.{known_update, ranges_turned}

@@ -45,15 +45,18 @@ use Rattle.sched.specs.Skeleton.{BodyText, NestText, SkeletonText, nest_turns, g
 use Rattle.tails.specs.Steps.{spine_of}
 use Rattle.tails.specs.Nests.{makes_by}
 use Rattle.lower.specs.declared.lowering.Lowered.{Lowered}
-use Rattle.lower.specs.Stored.{FormulaText, StoredText, stored_functions, has_large}
-use Rattle.lower.specs.Faults.{are_whole, region_fault}
-use Rattle.lower.specs.Regions.{bodies_from}
+use Rattle.sched.specs.Stored.{FormulaText, StoredText}
+use Rattle.lower.specs.Stored.{stored_functions, has_large}
+use Rattle.regions.specs.Faults.{are_whole}
+use Rattle.lower.specs.Faults.{region_fault}
+use Rattle.regions.specs.Regions.{bodies_from}
 use Rattle.lower.specs.Owning.{IsLaidBy}
-use Rattle.lower.specs.Loading.{Loads}
-use Rattle.lower.specs.Blocks.{LayText, lay_over, dimension_of}
-use Rattle.lower.specs.Blocks.{dimensions_of, claimed_region, own_places}
-use Rattle.lower.specs.Bodies.{IsStore}
-use Rattle.lower.specs.Fetches.{Entry as Fetched, Claims}
+use Rattle.sched.specs.Loading.{Loads}
+use Rattle.blocks.specs.Blocks.{LayText, lay_over, dimension_of}
+use Rattle.blocks.specs.Blocks.{dimensions_of, claimed_region, own_places}
+use Rattle.blocks.specs.Bodies.{IsStore}
+use Rattle.sched.specs.Fetches.{Entry as Fetched}
+use Rattle.blocks.specs.Fetches.{Claims}
 use Rattle.lower.specs.Groups.{HasBody, HasGroups}
 use Rattle.completeness.specs.Laws.{IsFetch, AreSplitOnce}
 use Rattle.completeness.specs.Parted.{KeepsInner}
@@ -72,7 +75,7 @@ use Rattle.completeness.proofs.BlockRanges.{reduced_in}
 use Rattle.completeness.proofs.BlockNests.{stored_there}
 use Rattle.completeness.proofs.TailLaw as pure_of
 use Rattle.completeness.proofs.TailUpdates as update_of
-use Rattle.lower.specs.Stored.{flags}
+use Rattle.blocks.specs.Stored.{flags}
 use Rattle.completeness.proofs.Laid.{subjects, found}
 use Rattle.completeness.proofs.Defined.{other_put}
 use Rattle.completeness.specs.Fitting.{IsSplitOnce}

@@ -26,7 +26,7 @@ use Rattle.sched.specs.Skeleton.{grid_forms, over_grid, skeleton_in}
 use Rattle.sched.proofs.Standings.{Stands, stands_more, stands_last, Begins, stood, waits, plainly, shifted, begins}
 use Rattle.sched.proofs.Passing.{IsClosed}
 use Rattle.sched.proofs.Rooting.{all_both, all_by_variable}
-use Rattle.lower.proofs.Laying.{bound, same}
+use Rattle.blocks.proofs.Laying.{bound, same}
 use Rattle.completeness.proofs.Standing.{Within, at_grid}
 use Rattle.completeness.proofs.Halves.{AreOthers, IsInner}
 use Rattle.completeness.proofs.Lanes.{AreOnce}

@@ -33,7 +33,7 @@ use Rattle.sched.specs.Standing.{is_bound, counted_once, innermost, keep_by_loop
 use Rattle.sched.specs.Skeleton.{span, enter, leave, inside, turn, turn_all}
 use Rattle.sched.proofs.Standings.{Stands, found_all, found_more, stands_more, stands_last, all_more}
 use Rattle.sched.proofs.Passing.{IsClosed}
-use Rattle.lower.proofs.Laying.{bound, same}
+use Rattle.blocks.proofs.Laying.{bound, same}
 use Rattle.completeness.proofs.Standing.{Within}
 use Rattle.completeness.proofs.Halves.{AreOthers, IsInner, by_whole, by_inner, inner_outer}
 use Rattle.completeness.proofs.Lanes.{AreOnce, pass_closes}

@@ -37,16 +37,18 @@ use Rattle.sched.specs.Numbers.{numbers_named, last_number, loop_numbers, parall
 use Rattle.sched.specs.Skeleton.{BodyText, NestText, SkeletonText, nest_turns, variables_at, ranges_at, grid_forms, kept_from}
 use Rattle.tails.specs.Maps.{covers}
 use Rattle.lower.specs.declared.lowering.Lowered.{Lowered}
-use Rattle.lower.specs.Stored.{FormulaText, StoredText, stored_functions, has_large}
-use Rattle.lower.specs.Faults.{are_whole, region_fault}
-use Rattle.lower.specs.Regions.{bodies_from}
-use Rattle.lower.specs.Around.{names_with}
+use Rattle.sched.specs.Stored.{FormulaText, StoredText}
+use Rattle.lower.specs.Stored.{stored_functions, has_large}
+use Rattle.regions.specs.Faults.{are_whole}
+use Rattle.lower.specs.Faults.{region_fault}
+use Rattle.regions.specs.Regions.{bodies_from}
+use Rattle.sched.specs.Around.{names_with}
 use Rattle.lower.specs.Owning.{IsLaidBy}
-use Rattle.lower.specs.Loading.{Loads}
-use Rattle.lower.specs.Blocks.{LayText, lay_over, dimension_of}
-use Rattle.lower.specs.Blocks.{dimensions_of, claimed_region}
-use Rattle.lower.specs.Bodies.{AreCoordinates, IsStore}
-use Rattle.lower.specs.Fetches.{Entry as Fetched}
+use Rattle.sched.specs.Loading.{Loads}
+use Rattle.blocks.specs.Blocks.{LayText, lay_over, dimension_of}
+use Rattle.blocks.specs.Blocks.{dimensions_of, claimed_region}
+use Rattle.blocks.specs.Bodies.{AreCoordinates, IsStore}
+use Rattle.sched.specs.Fetches.{Entry as Fetched}
 use Rattle.lower.specs.Groups.{HasBody, HasGroups}
 use Rattle.completeness.specs.Laws.{AreSplitOnce}
 use Rattle.completeness.specs.Parted.{KeepsInner}
@@ -65,7 +67,7 @@ use Rattle.tails.specs.Maps.{is_beyond, is_once}
 use Rattle.tails.specs.Moves.{is_outer}
 use Rattle.tails.specs.Apart.{is_apart}
 use Rattle.tails.specs.Updates.{loops_in, pure_steps, forms_in, at_forms, is_parted, is_spread, is_stepped}
-use Rattle.lower.specs.Around.{range_names}
+use Rattle.sched.specs.Around.{range_names}
 use Rattle.soundness.proofs.Refines.{eq_refl}
 use Rattle.completeness.proofs.Written.{variables_long}
 use Rattle.completeness.proofs.UpdateTurns.{range_name, ranges_hits}

@@ -21,13 +21,15 @@ use Rattle.rules.specs.Bounding.Seats.{seats}
 use Rattle.sched.specs.declared.numbers.Extent.{Extent}
 use Rattle.sched.specs.Skeleton.{NestText}
 use Rattle.sched.specs.Standing.{◌>>=◌}
-use Rattle.lower.specs.Stored.{FormulaText, StoredText, calls_in}
-use Rattle.lower.specs.Around.{AroundText, around}
-use Rattle.lower.specs.Blocks.{difference}
-use Rattle.lower.specs.Taken.{SiteText, add_spans, add_call, add_calls, with_site, add_site, add_sites, needed_span, cut, shortest, run_of, holds_call, holds_calls, hold_calls}
-use Rattle.lower.specs.Taken.{places_count, all_of, or_all, is_shown, shown, seated, needed_part, tight, part_of, taken_region, taken_places}
-use Rattle.lower.proofs.Laying.{bound, same}
-use Rattle.lower.specs.Bounded.{whole}
+use Rattle.sched.specs.Stored.{FormulaText, StoredText, calls_in}
+use Rattle.sched.specs.Around.{AroundText, around}
+use Rattle.sched.specs.Blocks.{difference}
+use Rattle.sched.specs.Taken.{SiteText, shortest, run_of}
+use Rattle.regions.specs.Taken.{add_spans, add_call, add_calls, with_site, add_site, add_sites, needed_span, cut, holds_call, holds_calls, hold_calls}
+use Rattle.sched.specs.Taken.{places_count}
+use Rattle.regions.specs.Taken.{all_of, or_all, is_shown, shown, seated, needed_part, tight, part_of, taken_region, taken_places}
+use Rattle.blocks.proofs.Laying.{bound, same}
+use Rattle.sched.specs.Bounded.{whole}
 use Rattle.completeness.specs.Stores.{IsHeldPart}
 use Rattle.completeness.proofs.Rising.{Rises, AllRise, LowRises}
 use Rattle.completeness.proofs.Seating.{plus_number, counted_is, one_less, shortest_many}

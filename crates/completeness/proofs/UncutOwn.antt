@@ -14,8 +14,10 @@ use Rattle.sched.specs.Schedule.{Schedule}
 use Rattle.sched.specs.Legal.{said, loops_after}
 use Rattle.sched.specs.Subjects.{subject_said}
 use Rattle.sched.specs.Standing.{◌>>=◌}
-use Rattle.lower.specs.Stored.{FormulaText, StoredText, put, left_put, lefts_put, formulas_put, stored_by, stored_among, stored_functions, flags}
-use Rattle.lower.proofs.Laying.{bound, same}
+use Rattle.sched.specs.Stored.{FormulaText, StoredText}
+use Rattle.blocks.specs.Stored.{put, left_put, lefts_put, formulas_put, stored_by, stored_among, flags}
+use Rattle.lower.specs.Stored.{stored_functions}
+use Rattle.blocks.proofs.Laying.{bound, same}
 use Rattle.completeness.proofs.Laid.{subjects}
 use Rattle.completeness.proofs.Defined.{other_put}
 use Rattle.completeness.proofs.OwnCalls.{own_variable}

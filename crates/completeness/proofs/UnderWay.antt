@@ -14,10 +14,10 @@ use Rattle.sched.specs.declared.skeleton.Step.{Step}
 use Rattle.sched.specs.declared.skeleton.Step.TheVariants.{Turns, Named, Tested}
 use Rattle.sched.specs.Runs.{lines_to}
 use Rattle.sched.specs.Skeleton.{NestText}
-use Rattle.lower.specs.Stored.{FormulaText, StoredText}
-use Rattle.lower.specs.Loading.{Loads}
-use Rattle.lower.specs.Bodies.{AreNests}
-use Rattle.lower.specs.Fetches.{FetchText, with_fetches}
+use Rattle.sched.specs.Stored.{FormulaText, StoredText}
+use Rattle.sched.specs.Loading.{Loads}
+use Rattle.blocks.specs.Bodies.{AreNests}
+use Rattle.blocks.specs.Fetches.{FetchText, with_fetches}
 use Rattle.completeness.specs.Owed.{EachLine, EachOf}
 use Rattle.completeness.proofs.FetchClaims.{all_members}
 use Rattle.completeness.proofs.NestWalk.{as_store}

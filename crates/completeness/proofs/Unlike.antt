@@ -30,14 +30,20 @@ use Rattle.validation.specs.Groups.Inside.{Inside, InsideOne}
 use Rattle.validation.specs.Groups.Wrong.{IsDefinition, StoresAnother, IsNotDefinitionAt}
 use Rattle.validation.specs.Stored.Definitions.{parts_of, parts_named, definition_in, stored_in}
 use Rattle.lower.specs.declared.lowering.Lowered.{Lowered}
-use Rattle.lower.specs.Stored.{FormulaText, StoredText, stored_by, stored_functions, flags, has_large}
-use Rattle.lower.specs.Faults.{are_whole, region_fault}
-use Rattle.lower.specs.Regions.{bodies_from}
-use Rattle.lower.specs.Around.{grid_scope}
-use Rattle.lower.specs.Taken.{sites_of}
-use Rattle.lower.specs.Loading.{Loads}
-use Rattle.lower.specs.Bodies.{first_lines, last_claim, IsStore, AreNests}
-use Rattle.lower.specs.Fetches.{Entry, FetchText, Calls, AreFetched, fetched_groups, loads_from, with_fetches}
+use Rattle.sched.specs.Stored.{FormulaText, StoredText}
+use Rattle.blocks.specs.Stored.{stored_by, flags}
+use Rattle.lower.specs.Stored.{stored_functions, has_large}
+use Rattle.regions.specs.Faults.{are_whole}
+use Rattle.lower.specs.Faults.{region_fault}
+use Rattle.regions.specs.Regions.{bodies_from}
+use Rattle.sched.specs.Around.{grid_scope}
+use Rattle.regions.specs.Taken.{sites_of}
+use Rattle.sched.specs.Loading.{Loads}
+use Rattle.blocks.specs.Bodies.{first_lines, IsStore, AreNests}
+use Rattle.lower.specs.Bodies.{last_claim}
+use Rattle.sched.specs.Fetches.{Entry}
+use Rattle.blocks.specs.Fetches.{FetchText, with_fetches}
+use Rattle.lower.specs.Fetches.{Calls, AreFetched, fetched_groups, loads_from}
 use Rattle.lower.specs.Groups.{HasBody, line_behind, HaveBodies, HasGroups}
 use Rattle.completeness.specs.Laws.{NamesNoLoad, DefinitionsAreStored}
 use Rattle.completeness.proofs.Standing.{AreLets, names_own, nest_shape}

@@ -14,9 +14,9 @@ use Rattle.sched.specs.Placing.{has_loop}
 use Rattle.sched.specs.Numbers.{loop_numbers, numbers_named, parallel_loops}
 use Rattle.sched.specs.Standing.{form_named, counted_from}
 use Rattle.sched.specs.Skeleton.{SkeletonText, grid_forms}
-use Rattle.lower.specs.Stored.{FormulaText, StoredText}
-use Rattle.lower.specs.Regions.{bodies_from, skeleton_of}
-use Rattle.lower.specs.Blocks.{PartText, Whole, Run, Scattered, LayText, is_parallel_named, alone_by, uncut, joined, part_of, lay_over}
+use Rattle.sched.specs.Stored.{FormulaText, StoredText}
+use Rattle.regions.specs.Regions.{bodies_from, skeleton_of}
+use Rattle.blocks.specs.Blocks.{PartText, Whole, Run, Scattered, LayText, is_parallel_named, alone_by, uncut, joined, part_of, lay_over}
 use Rattle.lower.specs.Owning.{is_scattered, has_scattered}
 use Rattle.lower.proofs.Grids.{parallel_named, head_of}
 use Rattle.completeness.specs.Parted.{KeepsInner}

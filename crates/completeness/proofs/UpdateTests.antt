@@ -21,8 +21,8 @@ use Rattle.rules.specs.Bounding.Scopes.{scope_of, shown_at_most}
 use Rattle.sched.specs.declared.nest.Turning.{Turning}
 use Rattle.sched.specs.Standing.{alone}
 use Rattle.sched.specs.Skeleton.{span, range_turning}
-use Rattle.lower.specs.Loading.{Loads}
-use Rattle.lower.specs.Bodies.{IsIndex}
+use Rattle.sched.specs.Loading.{Loads}
+use Rattle.blocks.specs.Bodies.{IsIndex}
 use Rattle.completeness.proofs.GridScope.{number_limited}
 use Rattle.completeness.proofs.SelfBounds.{form_self}
 use Rattle.completeness.proofs.PlainTurns.{one_if, hits, turn_name, found_at}
@@ -37,7 +37,8 @@ use Rattle.std.proofs.Common.{◌≡◌, ℕ, zero, suc, ◌≤◌, List, [], �
 use Rattle.std.proofs.Common.{Option, refl, ap, arith}
 use Rattle.lin.specs.Forms.{Form}
 use Rattle.plan.specs.Plan.{Coordinate}
-use Rattle.lower.specs.Bodies.{other_lefts, AreCoordinates}
+use Rattle.sched.specs.Bodies.{other_lefts}
+use Rattle.blocks.specs.Bodies.{AreCoordinates}
 
 -- ---- coordinates
 

@@ -16,9 +16,11 @@ use Rattle.sched.specs.Subjects.{reductions_of}
 use Rattle.sched.specs.declared.placing.Loop.{Loop}
 use Rattle.sched.specs.declared.nest.Turning.{Turning}
 use Rattle.sched.specs.Skeleton.{BodyText, range_turning}
-use Rattle.lower.specs.Stored.{FormulaText, StoredText, flags, stored_functions}
-use Rattle.lower.specs.Around.{range_names, ranges_of}
-use Rattle.lower.specs.Regions.{turnings, bodies_from}
+use Rattle.sched.specs.Stored.{FormulaText, StoredText}
+use Rattle.blocks.specs.Stored.{flags}
+use Rattle.lower.specs.Stored.{stored_functions}
+use Rattle.sched.specs.Around.{range_names, ranges_of}
+use Rattle.regions.specs.Regions.{turnings, bodies_from}
 use Rattle.completeness.proofs.Laid.{subjects, found}
 use Rattle.completeness.proofs.Defined.{other_put}
 use Rattle.completeness.proofs.Written.{first_ranges, behind_first, gone, later, ranges_here}

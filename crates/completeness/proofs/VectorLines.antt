@@ -47,14 +47,20 @@ use Rattle.validation.specs.Groups.Lanes.{goes_by, admits_lanes, reductions, red
 use Rattle.validation.specs.Groups.Lines.{Here, start}
 use Rattle.validation.specs.Groups.Inside.{Inside}
 use Rattle.lower.specs.declared.lowering.Lowered.{Lowered}
-use Rattle.lower.specs.Stored.{FormulaText, StoredText, stored_by, stored_functions, flags, has_large}
-use Rattle.lower.specs.Regions.{turnings, bodies_from}
-use Rattle.lower.specs.Faults.{are_whole, region_fault}
-use Rattle.lower.specs.Around.{ranges_of, names_with}
-use Rattle.lower.specs.Loading.{Loads}
-use Rattle.lower.specs.Blocks.{lay_over, dimensions_of, own_places}
-use Rattle.lower.specs.Bodies.{other_lefts, IsIndex, AreCoordinates, first_left, last_claim, IsStore, AreNests}
-use Rattle.lower.specs.Fetches.{Entry, FetchText, with_fetches}
+use Rattle.sched.specs.Stored.{FormulaText, StoredText}
+use Rattle.blocks.specs.Stored.{stored_by, flags}
+use Rattle.lower.specs.Stored.{stored_functions, has_large}
+use Rattle.regions.specs.Regions.{turnings, bodies_from}
+use Rattle.regions.specs.Faults.{are_whole}
+use Rattle.lower.specs.Faults.{region_fault}
+use Rattle.sched.specs.Around.{ranges_of, names_with}
+use Rattle.sched.specs.Loading.{Loads}
+use Rattle.blocks.specs.Blocks.{lay_over, dimensions_of, own_places}
+use Rattle.sched.specs.Bodies.{other_lefts, first_left}
+use Rattle.blocks.specs.Bodies.{IsIndex, AreCoordinates, IsStore, AreNests}
+use Rattle.lower.specs.Bodies.{last_claim}
+use Rattle.sched.specs.Fetches.{Entry}
+use Rattle.blocks.specs.Fetches.{FetchText, with_fetches}
 use Rattle.lower.specs.Groups.{HasBody, HasGroups}
 use Rattle.completeness.specs.Laws.{AreSplitOnce, IsNoVector, IsNoVectorAt, VectorsFit}
 use Rattle.completeness.proofs.Only.{Only}

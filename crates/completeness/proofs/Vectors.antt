@@ -31,7 +31,7 @@ use Rattle.sched.proofs.Visiting.{in_reverse}
 use Rattle.sched.proofs.Standings.{Stands, stands_more, stands_last, found_all, Begins, stood, waits, plainly, shifted, Puts, freely, by_loop, by_guard, by_test, Joins, stays, puts}
 use Rattle.sched.proofs.Passing.{IsClosed}
 use Rattle.sched.proofs.Closing.{next_of, settle_more}
-use Rattle.lower.proofs.Laying.{bound, same}
+use Rattle.blocks.proofs.Laying.{bound, same}
 use Rattle.completeness.proofs.Only.{Only, AreOnly}
 use Rattle.completeness.proofs.Standing.{Binds, Here, KnownOnly, known_weaker, form_weaker, are_weaker, OnlyIf, Rises, Sits, Within, at_grid, settled_here, turned_here, nest_sits, head_sits}
 use Rattle.completeness.proofs.Halves.{IsInner, AreOthers, IsNamed, lanes_inner}

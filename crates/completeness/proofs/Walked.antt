@@ -11,15 +11,18 @@ use Rattle.sched.specs.declared.skeleton.Step.{Step}
 use Rattle.sched.specs.declared.skeleton.Step.TheVariants.{Turns, Named, Tested}
 use Rattle.sched.specs.Skeleton.{NestText}
 use Rattle.sched.specs.Standing.{◌>>=◌}
-use Rattle.lower.specs.declared.spots.Spot.{Spot}
-use Rattle.lower.specs.declared.spots.Host.TheVariants.{Inner as Inside, Later as Anew}
-use Rattle.lower.specs.Bodies.{own_lines}
-use Rattle.lower.specs.Renamed.{Pairs, value_in, step_renamed, region_renamed, places_renamed, coordinates_renamed}
-use Rattle.lower.specs.Placed.{LaterText, PlacedText, OwnerText, SoFar, Made, both, with_lines, with_symbol, with_name, with_loads, bound_by, around, store_in, stored, with_claim, claimed, seated}
-use Rattle.lower.specs.Placed.{same_spot, buffer_at, buffers_at, Nests, own_buffer, function_at, functions_at, numbers_down, all_at, spot, step_in, walk, walk_apart, nests_from, lets, owner}
-use Rattle.lower.specs.Placed.{all_turns}
-use Rattle.lower.specs.Placed.{let_count, held, arm, arms, first_lets, first_and_later, sliding_turns, turns, computed, over_grid, group_nests}
-use Rattle.lower.proofs.Laying.{bound, same}
+use Rattle.sched.specs.declared.hosts.Spot.{Spot}
+use Rattle.sched.specs.declared.hosts.Host.TheVariants.{Inner as Inside, Later as Anew}
+use Rattle.blocks.specs.Bodies.{own_lines}
+use Rattle.sched.specs.Renamed.{Pairs, value_in, step_renamed, region_renamed, coordinates_renamed}
+use Rattle.blocks.specs.Renamed.{places_renamed}
+use Rattle.sched.specs.Placed.{LaterText, PlacedText, OwnerText, SoFar, Made, with_lines, with_symbol, with_name, bound_by, around, store_in, stored, with_claim, claimed}
+use Rattle.blocks.specs.Placed.{both, with_loads, seated}
+use Rattle.blocks.specs.Placed.{same_spot, buffer_at, buffers_at, Nests, own_buffer, function_at, functions_at, numbers_down, all_at, step_in, walk, walk_apart, nests_from, owner}
+use Rattle.sched.specs.Placed.{spot, lets}
+use Rattle.blocks.specs.Placed.{all_turns}
+use Rattle.blocks.specs.Placed.{let_count, held, arm, arms, first_lets, first_and_later, sliding_turns, turns, computed, over_grid, group_nests}
+use Rattle.blocks.proofs.Laying.{bound, same}
 
 -- behind the lines of one that slides: those that make all, and those that make what is new
 abbrev pub choice : ℕ → List Statement → List Statement → List Statement

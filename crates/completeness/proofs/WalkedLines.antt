@@ -11,11 +11,12 @@ use Rattle.sched.specs.declared.skeleton.Step.{Step}
 use Rattle.sched.specs.declared.skeleton.Step.TheVariants.{Turns, Named, Tested}
 use Rattle.sched.specs.Skeleton.{NestText}
 use Rattle.sched.specs.Standing.{◌>>=◌}
-use Rattle.lower.specs.Bodies.{own_lines}
-use Rattle.lower.specs.Renamed.{Pairs, value_in, forms_renamed, step_renamed, region_renamed}
-use Rattle.lower.specs.Placed.{PlacedText, OwnerText, SoFar, with_lines, with_symbol, with_claim, claimed, bound_by, around, Nests, all_at, walk_apart, nests_from, lets, let_count, computed}
-use Rattle.lower.specs.Placed.{over_grid, group_nests}
-use Rattle.lower.proofs.Laying.{bound, same}
+use Rattle.blocks.specs.Bodies.{own_lines}
+use Rattle.sched.specs.Renamed.{Pairs, value_in, forms_renamed, step_renamed, region_renamed}
+use Rattle.sched.specs.Placed.{PlacedText, OwnerText, SoFar, with_lines, with_symbol, with_claim, claimed, bound_by, around, lets}
+use Rattle.blocks.specs.Placed.{Nests, all_at, walk_apart, nests_from, let_count, computed}
+use Rattle.blocks.specs.Placed.{over_grid, group_nests}
+use Rattle.blocks.proofs.Laying.{bound, same}
 use Rattle.completeness.specs.Laws.{IsPublish}
 use Rattle.completeness.proofs.Unlike.{ClearAll, joined_clear}
 use Rattle.completeness.proofs.InnerLets.{IsNamed}

@@ -15,10 +15,11 @@ use Rattle.sched.specs.declared.skeleton.Step.{Step}
 use Rattle.sched.specs.declared.skeleton.Step.TheVariants.{Turns, Named, Tested}
 use Rattle.sched.specs.Standing.{◌>>=◌}
 use Rattle.validation.specs.Groups.Lines.{symbols_after}
-use Rattle.lower.specs.Bodies.{own_lines}
-use Rattle.lower.specs.Renamed.{Pairs, last_value, value_in, symbol, terms_renamed, form_renamed, behind, forms_renamed, span_renamed, step_renamed}
-use Rattle.lower.specs.Placed.{PlacedText, SoFar, with_lines, with_symbol, with_name, bound_by, around, lets, let_count}
-use Rattle.lower.proofs.Laying.{bound, same}
+use Rattle.blocks.specs.Bodies.{own_lines}
+use Rattle.sched.specs.Renamed.{Pairs, last_value, value_in, symbol, terms_renamed, form_renamed, behind, forms_renamed, span_renamed, step_renamed}
+use Rattle.sched.specs.Placed.{PlacedText, SoFar, with_lines, with_symbol, with_name, bound_by, around, lets}
+use Rattle.blocks.specs.Placed.{let_count}
+use Rattle.blocks.proofs.Laying.{bound, same}
 use Rattle.completeness.proofs.Only.{Only, AreOnly, SpanOnly, only_combined}
 use Rattle.completeness.proofs.Spots.{Has, has_first, has_last}
 use Rattle.completeness.proofs.Scoped.{last_or}

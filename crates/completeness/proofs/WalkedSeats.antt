@@ -10,12 +10,13 @@ use Rattle.plan.specs.declared.stmt.Pick.TheVariants.{Min}
 use Rattle.sched.specs.declared.skeleton.Step.{Step}
 use Rattle.sched.specs.declared.skeleton.Step.TheVariants.{Turns, Named, Tested}
 use Rattle.sched.specs.Standing.{◌>>=◌}
-use Rattle.lower.specs.Stored.{FormulaText}
-use Rattle.lower.specs.Around.{names_with}
-use Rattle.lower.specs.Loading.{Loads, as_load}
-use Rattle.lower.specs.Renamed.{Pairs, value_in, span_renamed, step_renamed}
-use Rattle.lower.specs.Placed.{LaterText, PlacedText, OwnerText, SoFar, with_lines, with_symbol, with_name, bound_by, around, coordinates_by, store_by, store_in, lets, let_count, held, fold_of}
-use Rattle.lower.proofs.Laying.{bound, same}
+use Rattle.sched.specs.Stored.{FormulaText}
+use Rattle.sched.specs.Around.{names_with}
+use Rattle.sched.specs.Loading.{Loads, as_load}
+use Rattle.sched.specs.Renamed.{Pairs, value_in, span_renamed, step_renamed}
+use Rattle.sched.specs.Placed.{LaterText, PlacedText, OwnerText, SoFar, with_lines, with_symbol, with_name, bound_by, around, coordinates_by, store_by, store_in, lets}
+use Rattle.blocks.specs.Placed.{let_count, held, fold_of}
+use Rattle.blocks.proofs.Laying.{bound, same}
 use Rattle.completeness.proofs.Seats.{AllotAll, allots_joined}
 use Rattle.completeness.proofs.Walked.{choice, Lines, HoldsOfEach}
 

@@ -33,15 +33,19 @@ use Rattle.sched.specs.declared.skeleton.Step.TheVariants.{Turns, Named, Tested}
 use Rattle.validation.specs.Groups.Wrong.{IsLeft, AreLeft, IsDefinition, StoresAnother}
 use Rattle.validation.specs.Stored.Definitions.{Definition, Pure, Step as Updates, parts_of, parts_named, definition_in, stored_in}
 use Rattle.lower.specs.declared.lowering.Lowered.{Lowered}
-use Rattle.lower.specs.declared.spots.Host.TheVariants.{Inner as Inside, Later as Anew}
-use Rattle.lower.specs.Stored.{FormulaText, StoredText, stored_by, stored_functions, flags}
-use Rattle.lower.specs.Around.{names_with}
-use Rattle.lower.specs.Loading.{Loads, as_load}
-use Rattle.lower.specs.Bodies.{first_left, other_lefts, own_lines, IsIndex, AreCoordinates}
-use Rattle.lower.specs.Renamed.{Pairs, last_value, value_in, form_renamed, behind, at_renamed, coordinates_renamed, step_renamed}
-use Rattle.lower.specs.Placed.{LaterText, PlacedText, OwnerText, SoFar, with_lines, with_symbol, with_name, with_claim, bound_by, around, index_by, coordinates_by, store_in, lets, let_count}
-use Rattle.lower.specs.Placed.{held, owner}
-use Rattle.lower.proofs.Laying.{bound, same}
+use Rattle.sched.specs.declared.hosts.Host.TheVariants.{Inner as Inside, Later as Anew}
+use Rattle.sched.specs.Stored.{FormulaText, StoredText}
+use Rattle.blocks.specs.Stored.{stored_by, flags}
+use Rattle.lower.specs.Stored.{stored_functions}
+use Rattle.sched.specs.Around.{names_with}
+use Rattle.sched.specs.Loading.{Loads, as_load}
+use Rattle.sched.specs.Bodies.{first_left, other_lefts}
+use Rattle.blocks.specs.Bodies.{own_lines, IsIndex, AreCoordinates}
+use Rattle.sched.specs.Renamed.{Pairs, last_value, value_in, form_renamed, behind, at_renamed, coordinates_renamed, step_renamed}
+use Rattle.sched.specs.Placed.{LaterText, PlacedText, OwnerText, SoFar, with_lines, with_symbol, with_name, with_claim, bound_by, around, index_by, coordinates_by, store_in, lets}
+use Rattle.blocks.specs.Placed.{let_count}
+use Rattle.blocks.specs.Placed.{held, owner}
+use Rattle.blocks.proofs.Laying.{bound, same}
 use Rattle.completeness.specs.Laws.{NamesNoLoad}
 use Rattle.completeness.proofs.Laid.{subjects, found}
 use Rattle.completeness.proofs.ClaimLines.{named_here}

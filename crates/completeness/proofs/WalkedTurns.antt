@@ -13,10 +13,11 @@ use Rattle.plan.specs.Plan.{Statement, Seq, For, Let, First, Guard, Alloc, Fetch
 use Rattle.sched.specs.declared.skeleton.Step.{Step}
 use Rattle.sched.specs.declared.skeleton.Step.TheVariants.{Turns, Named, Tested}
 use Rattle.sched.specs.Standing.{◌>>=◌}
-use Rattle.lower.specs.Renamed.{Pairs, last_value, value_in, span_renamed, forms_renamed, form_renamed, step_renamed}
-use Rattle.lower.specs.Placed.{LaterText, PlacedText, SoFar, with_lines, with_name, bound_by, around, lets, let_count, owner}
-use Rattle.lower.specs.declared.spots.Host.TheVariants.{Inner as Inside, Later as Anew}
-use Rattle.lower.proofs.Laying.{bound, same}
+use Rattle.sched.specs.Renamed.{Pairs, last_value, value_in, span_renamed, forms_renamed, form_renamed, step_renamed}
+use Rattle.sched.specs.Placed.{LaterText, PlacedText, SoFar, with_lines, with_name, bound_by, around, lets}
+use Rattle.blocks.specs.Placed.{let_count, owner}
+use Rattle.sched.specs.declared.hosts.Host.TheVariants.{Inner as Inside, Later as Anew}
+use Rattle.blocks.proofs.Laying.{bound, same}
 use Rattle.completeness.proofs.Standing.{Rises}
 use Rattle.completeness.proofs.Spots.{Has, has_first, has_last}
 use Rattle.completeness.proofs.InnerLets.{IsNamed}

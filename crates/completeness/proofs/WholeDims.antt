@@ -31,10 +31,12 @@ use Rattle.sched.specs.Numbers.{numbers_named, last_number, loop_numbers, parall
 use Rattle.sched.proofs.Rooting.{HaveDimensions, IsHeld}
 use Rattle.sched.proofs.Arranging.{LoopFits, SplitFits}
 use Rattle.lower.specs.declared.lowering.Lowered.{Lowered}
-use Rattle.lower.specs.Stored.{StoredText, stored_functions, has_large}
-use Rattle.lower.specs.Faults.{are_whole, region_fault}
-use Rattle.lower.specs.Bounded.{whole}
-use Rattle.lower.specs.Blocks.{dimension_of, lay_over}
+use Rattle.sched.specs.Stored.{StoredText}
+use Rattle.lower.specs.Stored.{stored_functions, has_large}
+use Rattle.regions.specs.Faults.{are_whole}
+use Rattle.lower.specs.Faults.{region_fault}
+use Rattle.sched.specs.Bounded.{whole}
+use Rattle.blocks.specs.Blocks.{dimension_of, lay_over}
 use Rattle.lower.specs.Owning.{IsLaidBy}
 use Rattle.lower.specs.Groups.{HasBody, HasGroups}
 use Rattle.lower.proofs.Blocking.{IsSmall, CutFits}

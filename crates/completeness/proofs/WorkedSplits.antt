@@ -4,9 +4,12 @@ use Rattle.std.specs.Prelude.{slice_get}
 use Rattle.meaning.specs.Algorithm.{Function}
 use Rattle.sched.specs.Subjects.{subject_said}
 use Rattle.sched.specs.Legal.{said, loops_after}
-use Rattle.lower.specs.Stored.{FormulaText, StoredText, stored_by, flags, stored_functions}
-use Rattle.lower.specs.Regions.{LaidText, laid_functions}
-use Rattle.lower.specs.Bodies.{step_lines}
+use Rattle.sched.specs.Stored.{FormulaText, StoredText}
+use Rattle.blocks.specs.Stored.{stored_by, flags}
+use Rattle.lower.specs.Stored.{stored_functions}
+use Rattle.sched.specs.Regions.{LaidText}
+use Rattle.regions.specs.Regions.{laid_functions}
+use Rattle.blocks.specs.Bodies.{step_lines}
 use Rattle.completeness.specs.Fitting.{IsSplitOnce}
 use Rattle.completeness.specs.Simple.{SimpleIndices}
 use Rattle.completeness.specs.Worked.{reader, caller, two_functions, both_split, SplitsFill}

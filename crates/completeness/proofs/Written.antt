@@ -28,10 +28,11 @@ use Rattle.sched.specs.Skeleton.{BodyText, variables_at}
 use Rattle.sched.specs.Standing.{◌>>=◌}
 use Rattle.validation.specs.Groups.Wrong.{HasNames}
 use Rattle.validation.specs.Stored.Definitions.{parts_of, Definition, Pure, Step, definition_in, function_in}
-use Rattle.lower.specs.Stored.{FormulaText, put, left_put, lefts_put, formulas_put}
-use Rattle.lower.specs.Regions.{turnings, bodies_from}
-use Rattle.lower.specs.Around.{range_names, ranges_of, names_with}
-use Rattle.lower.proofs.Laying.{bound, same}
+use Rattle.sched.specs.Stored.{FormulaText}
+use Rattle.blocks.specs.Stored.{put, left_put, lefts_put, formulas_put}
+use Rattle.regions.specs.Regions.{turnings, bodies_from}
+use Rattle.sched.specs.Around.{range_names, ranges_of, names_with}
+use Rattle.blocks.proofs.Laying.{bound, same}
 use Rattle.completeness.proofs.Earlier.{put_back}
 use Rattle.completeness.proofs.Defined.{put_is, first_put, other_put}
 

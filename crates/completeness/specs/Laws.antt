@@ -32,7 +32,7 @@ use Rattle.validation.specs.Groups.Lines.{flaws_of_groups}
 use Rattle.validation.specs.Groups.Wrong.{GroupNamesUnknown, NamesUnknown, IsUnknownAt, HasWide, IsWideAt, IsNotDefinitionAt}
 use Rattle.lower.specs.declared.lowering.Lowered.{Lowered}
 use Rattle.lower.specs.Stored.{stored_functions}
-use Rattle.lower.specs.Faults.{are_whole}
+use Rattle.regions.specs.Faults.{are_whole}
 use Rattle.lower.specs.Refused.{AreSmall, AreRegionsKept}
 use Rattle.lower.specs.Groups.{AreGroupsMade}
 use Rattle.completeness.specs.Parted.{HasOwnHead, ArePartedCells, AreServed, HasWholeOutput, InnersAreKept}

@@ -15,8 +15,9 @@ use Rattle.sched.specs.Legal.{IsLegal}
 use Rattle.lower.specs.declared.lowering.Lowered.{Lowered}
 use Rattle.validation.specs.Wide.{RegionIsWide}
 use Rattle.validation.specs.Groups.Inside.{Begins}
-use Rattle.lower.specs.Stored.{StoredText, stored_functions}
-use Rattle.lower.specs.Regions.{LaidText}
+use Rattle.sched.specs.Stored.{StoredText}
+use Rattle.lower.specs.Stored.{stored_functions}
+use Rattle.sched.specs.Regions.{LaidText}
 use Rattle.lower.specs.Owning.{IsExtent}
 use Rattle.lower.specs.Groups.{AreGroupsMade}
 use Rattle.completeness.specs.Laws.{IsNestLine, IsWideInside}

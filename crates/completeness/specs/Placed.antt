@@ -12,11 +12,12 @@ use Rattle.meaning.specs.Names.{is_among}
 use Rattle.algo.specs.Scoping.Standing.{Written}
 use Rattle.sched.specs.declared.numbers.Extent.{Extent}
 use Rattle.sched.specs.Skeleton.{NestText, SkeletonText}
-use Rattle.lower.specs.Stored.{FormulaText, StoredText, calls_in}
-use Rattle.lower.specs.Called.{called}
-use Rattle.lower.specs.Around.{AroundText, interval_in, range_names, ranges_of, head_scope, around}
-use Rattle.lower.specs.Regions.{LaidText, add_all_own, region_of}
-use Rattle.lower.specs.Bounded.{whole}
+use Rattle.sched.specs.Stored.{FormulaText, StoredText, calls_in}
+use Rattle.sched.specs.Called.{called}
+use Rattle.sched.specs.Around.{AroundText, interval_in, range_names, ranges_of, head_scope, around}
+use Rattle.sched.specs.Regions.{LaidText}
+use Rattle.regions.specs.Regions.{add_all_own, region_of}
+use Rattle.sched.specs.Bounded.{whole}
 
 -- what the function's own updates set and call, over the loops over its region, widens some reach to that region and no more
 abbrev pub IsSettled : Algorithm → StoredText → List FormulaText → LaidText → Type 0

@@ -4,7 +4,7 @@ use Rattle.std.specs.List.{AllByRecursion, list_all}
 use Rattle.numeric.specs.declared.op.Op.{Op}
 use Rattle.numeric.specs.declared.op.Op.TheVariants.{Add, Sub}
 use Rattle.tree.specs.Term.{Term, Terms, Number, Name, Binary, Clamp, End, More}
-use Rattle.lower.specs.Stored.{FormulaText, calls_in}
+use Rattle.sched.specs.Stored.{FormulaText, calls_in}
 
 abbrev pub is_literal : Term → Bool
 is_literal (Number t n) = true

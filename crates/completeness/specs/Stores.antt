@@ -13,12 +13,14 @@ use Rattle.soundness.specs.Binders.View.{grid_binders}
 use Rattle.rules.specs.Bounding.Rules.{rules_of}
 use Rattle.sched.specs.declared.numbers.Extent.{Extent}
 use Rattle.sched.specs.Skeleton.{SkeletonText}
-use Rattle.lower.specs.Stored.{FormulaText, StoredText}
-use Rattle.lower.specs.Around.{grid_scope}
-use Rattle.lower.specs.Taken.{SiteText, sites_of, hold_calls, tight}
-use Rattle.lower.specs.Bounded.{whole}
+use Rattle.sched.specs.Stored.{FormulaText, StoredText}
+use Rattle.sched.specs.Around.{grid_scope}
+use Rattle.sched.specs.Taken.{SiteText}
+use Rattle.regions.specs.Taken.{sites_of, hold_calls, tight}
+use Rattle.sched.specs.Bounded.{whole}
 use Rattle.lin.specs.declared.scope.Binding.{Binding}
-use Rattle.lower.specs.Fetches.{Entry, is_fetched}
+use Rattle.sched.specs.Fetches.{Entry}
+use Rattle.lower.specs.Fetches.{is_fetched}
 use Rattle.lower.specs.Groups.{roots_over}
 
 -- ---- where what is fetched holds the calls

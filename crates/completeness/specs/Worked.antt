@@ -9,8 +9,9 @@ use Rattle.sched.specs.declared.schedule.Tail.{Tail}
 use Rattle.sched.specs.declared.schedule.Tail.TheVariants.{Guard, Roundup, Shift}
 use Rattle.sched.specs.Schedule.{DirectiveText, compute_root, split, reorder, vectorize, parallel, Schedule}
 use Rattle.lower.specs.Stored.{stored_functions}
-use Rattle.lower.specs.Regions.{LaidText, laid_functions}
-use Rattle.lower.specs.Bodies.{step_lines}
+use Rattle.sched.specs.Regions.{LaidText}
+use Rattle.regions.specs.Regions.{laid_functions}
+use Rattle.blocks.specs.Bodies.{step_lines}
 use Rattle.completeness.specs.Fitting.{SplitsOnce}
 use Rattle.completeness.specs.OfPlans.{AreFormulasSmall}
 use Rattle.completeness.specs.Told.{IsCore}

@@ -1,11 +1,13 @@
 -- Along which loop a function slides, what it holds in each turn, and which functions are computed at the places of a loop, part by part.
-use Rattle.std.proofs.Common.{◌≡◌, ℕ, zero, suc, ◌+◌, ◌-◌, ◌<◌, ◌==◌, Bool, true, false, List, [], ◌∷◌, ◌++◌, length, map, Option, Some, None, Result, Ok, Err, refl, sym, ap, subst, ◌∙◌, arith, inl, inr}
+-- What crates below need of it stands there: `sched`, `regions`.
+use Rattle.std.proofs.Common.{◌≡◌, ℕ, zero, suc, ◌+◌, ◌-◌, ◌<◌, ◌==◌, Bool, true, false, List, [], ◌∷◌, ◌++◌, length, map, Option, Some, None, Result, Ok, Err, refl, sym, ap, subst, ◌∙◌}
+use Rattle.std.proofs.Common.{arith, inl, inr}
 use Rattle.std.specs.Prelude.{slice_get, if◌then◌else◌, IfOk}
-use Rattle.std.specs.List.{AllByRecursion, list_any}
+use Rattle.std.specs.List.{AllByRecursion}
 use Rattle.std.specs.Option.{option_map}
 use Rattle.std.specs.Global.{Vec}
 use Rattle.std.proofs.lemmas.Option.{slice_get-map}
-use Rattle.std.proofs.lemmas.List.{append_assoc, append-nil, length-map, map-append}
+use Rattle.std.proofs.lemmas.List.{append_assoc, append-nil, map-append}
 use Rattle.lin.specs.Forms.{Form}
 use Rattle.lin.specs.declared.scope.Binding.{Binding}
 use Rattle.lin.specs.declared.scope.Binding.TheVariants.{LetMin}
@@ -13,69 +15,39 @@ use Rattle.lin.specs.declared.span.Span1.{Span1}
 use Rattle.meaning.specs.Algorithm.{Algorithm}
 use Rattle.meaning.specs.Names.{same_name}
 use Rattle.sched.specs.declared.schedule.Home.{Home}
-use Rattle.sched.specs.declared.nest.Nest.{Nest}
 use Rattle.sched.specs.Skeleton.{NestText, nest_seen}
 use Rattle.sched.specs.Standing.{◌>>=◌}
-use Rattle.lower.specs.declared.definitions.Formula.{Formula}
-use Rattle.lower.specs.declared.error.Stop.{Stop}
-use Rattle.lower.specs.declared.error.Stop.TheVariants as stop
-use Rattle.lower.specs.declared.fetching.Root.{Root}
-use Rattle.lower.specs.declared.fetching.Site.{Site}
-use Rattle.lower.specs.declared.inner.Inner.{Inner}
-use Rattle.lower.specs.declared.rounded.Lain.{Lain}
-use Rattle.lower.specs.declared.sliding.Later.{Later}
-use Rattle.lower.specs.declared.sliding.Sliding.{Sliding}
-use Rattle.lower.specs.declared.spots.Host.{Host}
-use Rattle.lower.specs.declared.spots.Spot.{Spot}
-use Rattle.lower.specs.Stored.{FormulaText, StoredText, formula_of}
-use Rattle.lower.specs.Around.{bind_steps}
-use Rattle.lower.specs.Taken.{SiteText, site_of}
-use Rattle.lower.specs.Fetches.{Entry}
-use Rattle.lower.specs.Groups.{root_of}
-use Rattle.lower.specs.Limited.{Gives}
-use Rattle.lower.specs.Uses.{first_home}
-use Rattle.lower.specs.Placed.{LaterText, PlacedText, inner_seen, later_seen}
-use Rattle.lower.specs.Homes.{HostText, host_at, hosts_named, is_over_grid, spot_in, put_before}
-use Rattle.lower.specs.Demanded.{scope_at, sites_at, is_rounding, is_rounded}
+use Rattle.sched.specs.declared.stop.Stop.{Stop}
+use Rattle.sched.specs.declared.stop.Stop.TheVariants as stop
+use Rattle.sched.specs.declared.roots.Root.{Root}
+use Rattle.sched.specs.declared.roots.Site.{Site}
+use Rattle.sched.specs.declared.hosts.Inner.{Inner}
+use Rattle.blocks.specs.declared.rounded.Lain.{Lain}
+use Rattle.sched.specs.declared.hosts.Later.{Later}
+use Rattle.regions.specs.declared.sliding.Sliding.{Sliding}
+use Rattle.sched.specs.declared.hosts.Host.{Host}
+use Rattle.sched.specs.declared.hosts.Spot.{Spot}
+use Rattle.sched.specs.Stored.{FormulaText, StoredText}
+use Rattle.sched.specs.Around.{bind_steps}
+use Rattle.sched.specs.Taken.{SiteText, site_of}
+use Rattle.sched.specs.Fetches.{Entry}
+use Rattle.sched.specs.Groups.{root_of}
+use Rattle.sched.specs.Limited.{Gives}
+use Rattle.regions.specs.Uses.{first_home}
+use Rattle.sched.specs.Placed.{LaterText, PlacedText, inner_seen, later_seen}
+use Rattle.regions.specs.Homes.{HostText, host_at, hosts_named, is_over_grid, spot_in}
+use Rattle.lower.specs.Homes.{put_before}
+use Rattle.regions.specs.Demanded.{scope_at, sites_at}
 use Rattle.lower.specs.Guarded.{needed_at}
-use Rattle.lower.specs.Slid.{later_from, later_along, later_turns, turns_held, turns_of}
-use Rattle.lower.specs.Slid.{TrackText, is_single, is_split, fit_along, sliding_seen, sliding_at, new_from, new_region, held_along, IsLater, HasLater, HoldsBy, Holds}
-use Rattle.lower.specs.Parted.{kept_region, nests_over}
-use Rattle.lower.specs.Rounded.{LainText, lain_over, lain_kept, claim_of, begun_seen, lain_seen}
-use Rattle.lower.specs.Computed.{before, spots_in, spots_by, spots_of_hosts, spots_at, spots_of, is_called, called_spots, IsLain, IsComputed, AreComputed, AreComputedIf, AreFound, AreFoundIf, IsMissing, IsUnbounded, IsComputedAt, IsComputedBy, AreComputedAt, IsJudged, IsSeated}
-use Rattle.lower.specs.Computed.{inner_called, inner_if, inner_at, inner_by, inners_in, inners_by, inners_of_hosts, inners_at, inners_of}
-
--- ---- splits
-
-pub rounded_in : (g : StoredText) (d : ℕ) (x : List ℕ) (r : Bool) → slice_get g.subject.variables d ≡ Some x → r ≡ list_any (is_rounding g.placed.cuts x) g.placed.cuts → r ≡ is_rounded g d
-rounded_in g d x r e h = h ∙ ap (λ (o : Option (List ℕ)). elim o [ Some y ↦ list_any (is_rounding g.placed.cuts y) g.placed.cuts | None ↦ false ]) (sym e)
-
-pub no_variable : (g : StoredText) (d : ℕ) → slice_get g.subject.variables d ≡ None → false ≡ is_rounded g d
-no_variable g d e = ap (λ (o : Option (List ℕ)). elim o [ Some y ↦ list_any (is_rounding g.placed.cuts y) g.placed.cuts | None ↦ false ]) (sym e)
-
-pub split_in : (g : StoredText) (d : ℕ) (x : List ℕ) (r : Bool) → slice_get g.subject.variables d ≡ Some x → r ≡ list_any (λ c. same_name c.whole x) g.placed.cuts → r ≡ is_split g d
-split_in g d x r e h = h ∙ ap (λ (o : Option (List ℕ)). elim o [ Some y ↦ list_any (λ c. same_name c.whole y) g.placed.cuts | None ↦ false ]) (sym e)
-
-pub not_split : (g : StoredText) (d : ℕ) → slice_get g.subject.variables d ≡ None → false ≡ is_split g d
-not_split g d e = ap (λ (o : Option (List ℕ)). elim o [ Some y ↦ list_any (λ c. same_name c.whole y) g.placed.cuts | None ↦ false ]) (sym e)
-
--- ---- definitions
-
-pub single_seen : (fs : List Formula) (b : Bool) → b ≡ (length fs == 1) → b ≡ is_single (map formula_of fs)
-single_seen fs b h = h ∙ ap (λ (n : ℕ). n == 1) (sym (length-map fs formula_of))
-
--- ---- folds
-
-module _ (g : StoredText) (scope : List Binding) (r : List Span1) (d : ℕ) where
-  pub fits_no_variable : slice_get g.subject.variables d ≡ None → false ≡ fit_along g scope (slice_get g.subject.variables d) (slice_get r d)
-  fits_no_variable e = ap (λ (o : Option (List ℕ)). fit_along g scope o (slice_get r d)) (sym e)
-
-  pub fits_no_span : (x : List ℕ) → slice_get g.subject.variables d ≡ Some x → slice_get r d ≡ None → false ≡ fit_along g scope (slice_get g.subject.variables d) (slice_get r d)
-  fits_no_span x e h = (λ j. fit_along g scope (sym e j) (sym h j))
-
-  pub fits_along : (x : List ℕ) (s : Span1) (b : Bool) → slice_get g.subject.variables d ≡ Some x → slice_get r d ≡ Some s → b ≡ fit_along g scope (Some x) (Some s)
-      → b ≡ fit_along g scope (slice_get g.subject.variables d) (slice_get r d)
-  fits_along x s b e h is = is ∙ (λ j. fit_along g scope (sym e j) (sym h j))
+use Rattle.lower.specs.Slid.{later_from, later_along, later_turns, turns_held, turns_of, sliding_at, held_along, IsLater, HasLater, HoldsBy, Holds}
+use Rattle.regions.specs.Slid.{TrackText, sliding_seen, new_from, new_region}
+use Rattle.blocks.specs.Parted.{kept_region}
+use Rattle.lower.specs.Parted.{nests_over}
+use Rattle.lower.specs.Rounded.{LainText, lain_over, lain_kept, lain_seen}
+use Rattle.blocks.specs.Rounded.{claim_of, begun_seen}
+use Rattle.lower.specs.Computed.{before, spots_in, spots_by, spots_of_hosts, spots_at, spots_of, is_called, called_spots, IsLain, IsComputed, AreComputed, AreComputedIf, AreFound}
+use Rattle.lower.specs.Computed.{AreFoundIf, IsMissing, IsUnbounded, IsComputedAt, IsComputedBy, AreComputedAt, IsJudged, IsSeated, inner_called, inner_if, inner_at, inner_by, inners_in}
+use Rattle.lower.specs.Computed.{inners_by, inners_of_hosts, inners_at, inners_of}
 
 -- ---- what it holds
 
@@ -549,8 +521,3 @@ pub found_without : (a : Algorithm) (e : Entry) (functions : List Root) (v : Vec
     → AreFoundIf a e (map root_of functions) (length functions) [] (Ok v)
 found_without a e functions v none nothing =
     subst (λ (l : List Root). AreFoundIf a e (map root_of l) (length l) [] (Ok v)) (sym none) (ap (map inner_seen) nothing)
-
--- ---- nests
-
-pub nest_pushed : (ns all : List Nest) (n : Nest) → all ≡ ns ++ n ∷ [] → map nest_seen all ≡ map nest_seen ns ++ nest_seen n ∷ []
-nest_pushed ns all n e = ap (map nest_seen) e ∙ map-append nest_seen ns (n ∷ [])

@@ -6,7 +6,7 @@ use Rattle.std.proofs.lemmas.List.Elements.{All-cons, All-nil, All-from_recursio
 use Rattle.std.proofs.lemmas.Option.{slice_get_within}
 use Rattle.std.specs.List.{AllByRecursion, All, Any}
 use Rattle.std.specs.Int.{int_min}
-use Rattle.std.specs.Prelude.{ℤ, pos, ◌+ℤ◌, ◌-ℤ◌, ◌≤ℤ◌, ◌⊎◌, ◌==◌, int_le, int_lt, cond, map, replicate, slice_get, if◌then◌else◌}
+use Rattle.std.specs.Prelude.{ℤ, pos, ◌+ℤ◌, ◌-ℤ◌, ◌≤ℤ◌, ◌⊎◌, ◌==◌, int_le, int_lt, cond, replicate, slice_get, if◌then◌else◌}
 use Rattle.lin.specs.Forms.{Form, number, value_of}
 use Rattle.lin.specs.Spans.{HoldsIn, Holds, IsInSpan, IsLeast}
 use Rattle.lin.specs.declared.scope.Binding.{Binding}
@@ -24,10 +24,10 @@ use Rattle.sched.specs.Skeleton.{span}
 use Rattle.sched.specs.Visits.{IsInGrid, picked}
 use Rattle.sched.proofs.Arriving.{skeletal}
 use Rattle.sched.proofs.Leading.{In, Leads, arrived, leads_apart, turn_says}
-use Rattle.lower.specs.Around.{anything, bind, bind_step, bind_steps, grid_scope, grid_symbol, head_scope, skip_to}
-use Rattle.lower.specs.Regions.{bodies_from}
+use Rattle.sched.specs.Around.{anything, bind, bind_step, bind_steps, grid_scope, grid_symbol, head_scope, skip_to}
+use Rattle.regions.specs.Regions.{bodies_from}
 use Rattle.lower.specs.Held.{ArrivalsFit}
-use Rattle.lower.proofs.Laying.{same}
+use Rattle.blocks.proofs.Laying.{same}
 
 -- ---- lists
 

@@ -1,5 +1,6 @@
 -- The regions for which all turns ask, as they are asked for once more.
-use Rattle.std.proofs.Common.{◌≡◌, ℕ, suc, ◌+◌, Bool, true, false, ◌&&◌, ◌||◌, List, [], ◌∷◌, length, map, Option, Some, None, Result, Ok, Err, refl, sym, ap, subst, ◌∙◌, inl, inr, add-one}
+use Rattle.std.proofs.Common.{◌≡◌, ℕ, suc, ◌+◌, Bool, true, false, ◌&&◌, ◌||◌, List, [], ◌∷◌, length, map, Option, Some, None, Result, Ok, Err, refl, sym, ap, subst, ◌∙◌, inl, inr}
+use Rattle.std.proofs.Common.{add-one}
 use Rattle.std.specs.Prelude.{if◌then◌else◌, IfOk}
 use Rattle.std.specs.List.{list_any}
 use Rattle.std.specs.Option.{option_map}
@@ -10,28 +11,31 @@ use Rattle.meaning.specs.Algorithm.{Algorithm}
 use Rattle.sched.specs.declared.error.Rule.{Rule}
 use Rattle.sched.specs.Placing.{SubjectText}
 use Rattle.sched.specs.declared.region_rule.RegionRule.{RegionRule}
-use Rattle.lower.specs.declared.definitions.Formula.{Formula}
-use Rattle.lower.specs.declared.definitions.Stored.{Stored}
+use Rattle.sched.specs.declared.definitions.Formula.{Formula}
+use Rattle.sched.specs.declared.definitions.Stored.{Stored}
 use Rattle.lower.specs.declared.error.LowerError.{LowerError}
 use Rattle.lower.specs.declared.error.LowerError.TheVariants as error
-use Rattle.lower.specs.declared.inner.Inner.{Inner}
+use Rattle.sched.specs.declared.hosts.Inner.{Inner}
 use Rattle.lower.specs.declared.lowering.Lowered.{Lowered}
 use Rattle.lower.specs.declared.parties.Party.{Party}
-use Rattle.lower.specs.declared.regions.Laid.{Laid}
-use Rattle.lower.specs.Stored.{FormulaText, StoredText, formula_of, stored_of}
-use Rattle.lower.specs.Regions.{LaidText, laid_of, laid_over, laid_functions}
+use Rattle.sched.specs.declared.roots.Laid.{Laid}
+use Rattle.sched.specs.Stored.{FormulaText, StoredText, formula_of, stored_of}
+use Rattle.sched.specs.Regions.{LaidText, laid_of}
+use Rattle.regions.specs.Regions.{laid_over, laid_functions}
 use Rattle.lower.specs.Broken.{Inside}
-use Rattle.lower.specs.Faults.{are_whole}
-use Rattle.lower.specs.Fetches.{Entry}
-use Rattle.lower.specs.Placed.{PlacedText}
+use Rattle.regions.specs.Faults.{are_whole}
+use Rattle.sched.specs.Fetches.{Entry}
+use Rattle.sched.specs.Placed.{PlacedText}
 use Rattle.lower.specs.Asked.{reach_in, laid_again, laid_anew, laid_each, are_same, unless_same, unless}
 use Rattle.lower.specs.Homes.{AreAllAtHome}
 use Rattle.lower.specs.Computed.{AreAllFound}
-use Rattle.lower.specs.Groups.{IsOverRegion, AreOverRegions, AreAllFoundIf, Round, Come, all_rooted, all_known, rounds, asked, rooted, is_missing, inside_of, inside_at, placed_in, party_of, placed_of, IsKnown, AreKnown, AreFoundOf, HasGroupsFrom, IsKeptPlan}
+use Rattle.lower.specs.Groups.{IsOverRegion, AreOverRegions, AreAllFoundIf, Round, Come, all_rooted, all_known, rounds, asked, rooted, is_missing, inside_of, inside_at, placed_in}
+use Rattle.lower.specs.Groups.{party_of, placed_of, IsKnown, AreKnown, AreFoundOf, HasGroupsFrom, IsKeptPlan}
 use Rattle.lower.specs.Refused.{Answers, AnswersBy, AnswersFrom, IsAskedFrom, IsFirstOver, IsFirstFrom, IsNoneOver, IsNoneFrom}
-use Rattle.lower.proofs.First.{formulas_at, no_formulas}
+use Rattle.blocks.proofs.First.{formulas_at, no_formulas}
 use Rattle.lower.proofs.Grouped.{all_found, all_inside, placed_all}
-use Rattle.lower.proofs.Laying.{laid_it, bound}
+use Rattle.lower.proofs.Laying.{laid_it}
+use Rattle.blocks.proofs.Laying.{bound}
 use Rattle.lower.proofs.Made.{whole_root, whole_rest, groups_made}
 
 -- ---- one function

@@ -1,5 +1,6 @@
 -- What belongs to a piece of a loop's numbers is the run of them that its block says: by the block and the place of each number, split by split.
-use Rattle.std.proofs.Common.{◌≡◌, ℕ, ◌+◌, ◌-◌, ◌*◌, ◌/◌, ◌%◌, ◌<◌, ◌≤◌, Bool, true, false, not, List, [], ◌∷◌, ◌++◌, map, Option, Some, None, refl, sym, ap, ◌∙◌, subst, arith, ℤ, pos, negsuc, ◌≤ℤ◌}
+use Rattle.std.proofs.Common.{◌≡◌, ℕ, ◌+◌, ◌-◌, ◌*◌, ◌/◌, ◌%◌, ◌<◌, ◌≤◌, Bool, true, false, not, List, [], ◌∷◌, ◌++◌, map, Option, Some, None, refl, sym, ap, ◌∙◌, subst, arith, ℤ, pos}
+use Rattle.std.proofs.Common.{negsuc, ◌≤ℤ◌}
 use Rattle.std.specs.Prelude.{◌+ℤ◌, ◌-ℤ◌, ◌*ℤ◌, ◌==◌, ◌||◌, if◌then◌else◌}
 use Rattle.std.specs.List.{AllByRecursion}
 use Rattle.std.specs.Ordering.{int_eq}
@@ -18,7 +19,9 @@ use Rattle.sched.specs.declared.numbers.Numbers.{Numbers}
 use Rattle.sched.specs.Numbers.{blocks, numbers_named, last_number}
 use Rattle.sched.specs.Standing.{form_named, has_rest}
 use Rattle.sched.proofs.Numbering.{in_block, whole_blocks, pos_clipped}
-use Rattle.lower.specs.Blocks.{factor_of, multiple_from, block_end, BlockText, PartText, Whole, Run, Scattered, LayText, all_ends, own_last, with_last, alone_by, blocks_by, within_by, joined, uncut, part_of, is_parallel_named}
+use Rattle.sched.specs.Blocks.{factor_of}
+use Rattle.blocks.specs.Blocks.{multiple_from, block_end, BlockText, PartText, Whole, Run, Scattered, LayText, all_ends, own_last, with_last, alone_by, blocks_by, within_by, joined}
+use Rattle.blocks.specs.Blocks.{uncut, part_of, is_parallel_named}
 use Rattle.lower.specs.Owning.{IsTurn, block_of, place_of, EitherBy, Belongs}
 use Rattle.lower.proofs.Dividing.{Falls, falls, falls_only, next_times, first_below, below_first, last_above, above_last, nearest, nearest_of_small, nearest_order, nearest_below}
 

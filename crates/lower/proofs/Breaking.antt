@@ -1,5 +1,7 @@
 -- The first function that breaks a rule, as it is found one function after another.
-use Rattle.std.proofs.Common.{◌≡◌, ℕ, zero, suc, ◌+◌, ◌<◌, Bool, true, false, List, [], ◌∷◌, length, map, take, drop, arith, Option, Some, None, Result, refl, sym, ap, subst, ◌∙◌, add-one}
+-- What crates below need of it stands there: `blocks`.
+use Rattle.std.proofs.Common.{◌≡◌, ℕ, zero, suc, ◌+◌, ◌<◌, Bool, true, false, List, [], ◌∷◌, length, map, take, drop, arith, Option, Some, None, Result, refl, sym, ap, subst, ◌∙◌}
+use Rattle.std.proofs.Common.{add-one}
 use Rattle.std.specs.Prelude.{if◌then◌else◌, IfOk, get_or}
 use Rattle.std.specs.Global.{Vec}
 use Rattle.std.proofs.lemmas.Result.{IfOk-weaker}
@@ -9,35 +11,25 @@ use Rattle.algo.specs.Scoping.Standing.{Written}
 use Rattle.sched.specs.declared.error.Rule.{Rule}
 use Rattle.sched.specs.declared.region_rule.RegionRule.{RegionRule}
 use Rattle.sched.specs.declared.region_rule.RegionRule.TheVariants.{OutsideUse, TooLarge}
-use Rattle.lower.specs.declared.definitions.Formula.{Formula}
-use Rattle.lower.specs.declared.definitions.Stored.{Stored}
-use Rattle.lower.specs.declared.legality.Totals.{Totals}
-use Rattle.lower.specs.Broken.{Inside, fault_inside, calls_left, leaves_some, fault_over, fault_by, fault_of, rule_of, totals_of, first_from, first_over}
-use Rattle.lower.specs.Faults.{is_homeless, is_whole, are_whole, no_totals, with_laid, fault_within, totals_by, totals_with, or_later, first_laid, other_laid, fault_from, calls_of_large, IsFirstOf}
+use Rattle.sched.specs.declared.definitions.Formula.{Formula}
+use Rattle.sched.specs.declared.definitions.Stored.{Stored}
+use Rattle.blocks.specs.declared.legality.Totals.{Totals}
+use Rattle.lower.specs.Broken.{Inside, fault_inside, calls_left, fault_over, fault_by, fault_of, rule_of, first_from, first_over}
+use Rattle.regions.specs.Broken.{leaves_some}
+use Rattle.blocks.specs.Broken.{totals_of}
+use Rattle.regions.specs.Faults.{is_homeless, is_whole, are_whole}
+use Rattle.lower.specs.Faults.{no_totals, or_later, fault_from, calls_of_large, IsFirstOf}
+use Rattle.blocks.specs.Faults.{with_laid, fault_within, totals_with, first_laid, other_laid}
 use Rattle.lower.specs.Faults as faults
-use Rattle.lower.specs.Lacking.{lacking}
-use Rattle.lower.specs.Regions.{LaidText}
-use Rattle.lower.specs.Stored.{FormulaText, StoredText, is_large, formula_of, stored_of}
-use Rattle.lower.specs.Uses.{is_used_outside}
-use Rattle.lower.proofs.First.{Fault, formulas_at, no_formulas, totals_found, totals_large, next_of}
+use Rattle.regions.specs.Lacking.{lacking}
+use Rattle.sched.specs.Regions.{LaidText}
+use Rattle.sched.specs.Stored.{FormulaText, StoredText, formula_of, stored_of}
+use Rattle.regions.specs.Stored.{is_large}
+use Rattle.regions.specs.Uses.{is_used_outside}
+use Rattle.lower.proofs.First.{Fault, next_of}
+use Rattle.blocks.proofs.First.{formulas_at, no_formulas}
 use Rattle.lower.proofs.Made.{both, whole_root, whole_rest}
-use Rattle.lower.proofs.Outsides.{homeless_unused}
-
--- ---- what counts
-
-module _ (t : Totals) where
-  pub of_other : (g : StoredText) (l : Option LaidText) → g.subject.is_root ≡ false → t ≡ totals_of t g l
-  of_other g l e = ap (λ b. if b then totals_with t g l else t) (sym e)
-
-  of_root : (g : StoredText) (l : Option LaidText) (u : Totals) → g.subject.is_root ≡ true → u ≡ totals_with t g l → u ≡ totals_of t g l
-  of_root g l u e h = h ∙ ap (λ b. if b then totals_with t g l else t) (sym e)
-
-  pub of_large : (s : Stored) (l : Option LaidText) → (stored_of s).subject.is_root ≡ true → s.formulas ≡ None → t ≡ totals_of t (stored_of s) l
-  of_large s l e h = of_root (stored_of s) l t e (sym (totals_large t s l h))
-
-  pub of_found : (s : Stored) (v : Vec Formula) (l : Option LaidText) (u : Totals) → (stored_of s).subject.is_root ≡ true → s.formulas ≡ Some v
-      → u ≡ totals_by t (Some (map formula_of v.items)) l → u ≡ totals_of t (stored_of s) l
-  of_found s v l u e h is = of_root (stored_of s) l u e (is ∙ sym (totals_found t s v l h))
+use Rattle.regions.proofs.Outsides.{homeless_unused}
 
 module _ (a : Algorithm) (all : List StoredText) (inside : List Inside) (left : List Written) where
   -- ---- one function

@@ -1,61 +1,40 @@
 -- What is known of a piece's claims, need lines and loads while its body is made.
-use Rattle.std.proofs.Common.{◌≡◌, ℕ, ◌+◌, ◌-◌, ◌*◌, ◌≤◌, ◌<◌, Bool, true, false, List, [], ◌∷◌, ◌++◌, length, map, take, drop, get_or, Option, Some, None, refl, sym, ap, subst, ◌∙◌, arith}
-use Rattle.std.specs.Prelude.{string_bytes}
-use Rattle.std.proofs.Math.Seq.{take-length}
-use Rattle.std.proofs.lemmas.List.{append_assoc, append-nil, length-append, map-append}
-use Rattle.lin.specs.declared.span.Span1.{Span1}
+-- What crates below need of it stands there: `sched`, `blocks`.
+use Rattle.std.proofs.Common.{◌≡◌, ℕ, ◌+◌, ◌-◌, ◌*◌, ◌<◌, Bool, List, [], ◌∷◌, ◌++◌, length, map, Option, Some, None, refl, sym, ap, subst, ◌∙◌, arith}
+use Rattle.std.proofs.lemmas.List.{append-nil, length-append, map-append}
 use Rattle.plan.specs.declared.certificate.cert.Claim.{Claim}
 use Rattle.plan.specs.declared.certificate.cert.Need.{Need}
 use Rattle.plan.specs.declared.plan.Group.{Group}
 use Rattle.plan.specs.declared.stmt.Places.{Places}
-use Rattle.plan.specs.declared.stmt.Stmt.{Stmt}
-use Rattle.plan.specs.Plan.{Statement, Seq, For, Let, First, Guard, Alloc, Fetch, Store, Publish, Statements, Empty, Then, block}
+use Rattle.plan.specs.Plan.{Statement, Alloc, Publish, block}
 use Rattle.plan.specs.Lines.{lines, block_lines}
 use Rattle.plan.specs.View.{statement_of}
-use Rattle.plan.specs.Lists.{list_statements}
-use Rattle.sched.specs.declared.skeleton.Step.{Step}
-use Rattle.sched.specs.declared.skeleton.Step.TheVariants.{Turns, Named, Tested}
-use Rattle.sched.specs.Runs.{lines_to}
-use Rattle.sched.specs.Skeleton.{NestText, SkeletonText}
-use Rattle.lower.specs.declared.group.Body.{Body}
-use Rattle.lower.specs.declared.fetching.Root.{Root}
-use Rattle.lower.specs.declared.loading.Load.{Load}
+use Rattle.sched.specs.Skeleton.{SkeletonText}
+use Rattle.blocks.specs.declared.group.Body.{Body}
+use Rattle.sched.specs.declared.roots.Root.{Root}
+use Rattle.blocks.specs.declared.loading.Load.{Load}
 use Rattle.lower.specs.declared.parties.Party.{Party}
-use Rattle.lower.specs.declared.whole.Fetch.{Fetch as CodeFetch}
-use Rattle.lower.specs.Stored.{FormulaText, StoredText}
-use Rattle.lower.specs.Loading.{Loads, load_of}
-use Rattle.lower.specs.Fetches.{Entry, FetchText, is_fetched, fetched_if, fetched_groups, Calls, IsTaken, Claims, last_number, AreFetched, with_fetches, loads_from, fetch_seen}
-use Rattle.lower.specs.Blocks.{dimensions_of, claimed_region, own_places}
-use Rattle.lower.specs.Bodies.{IsStore, step_lines, IsNest, AreNests, IsBodyWith, last_claim, first_lines}
+use Rattle.blocks.specs.declared.whole.Fetch.{Fetch as CodeFetch}
+use Rattle.sched.specs.Stored.{FormulaText, StoredText}
+use Rattle.sched.specs.Loading.{Loads}
+use Rattle.blocks.specs.Loading.{load_of}
+use Rattle.sched.specs.Fetches.{Entry}
+use Rattle.blocks.specs.Fetches.{FetchText, Claims, last_number, with_fetches, fetch_seen}
+use Rattle.lower.specs.Fetches.{is_fetched, fetched_if, fetched_groups, Calls, IsTaken, AreFetched, loads_from}
+use Rattle.blocks.specs.Blocks.{dimensions_of, claimed_region, own_places}
+use Rattle.blocks.specs.Bodies.{step_lines, AreNests, IsBodyWith, first_lines}
+use Rattle.lower.specs.Bodies.{last_claim}
 use Rattle.meaning.specs.Algorithm.{Algorithm}
 use Rattle.lin.specs.declared.scope.Binding.{Binding}
-use Rattle.lower.specs.Around.{grid_scope}
-use Rattle.lower.specs.Taken.{sites_of}
-use Rattle.lower.specs.Needs.{pieces_needed}
+use Rattle.sched.specs.Around.{grid_scope}
+use Rattle.regions.specs.Taken.{sites_of}
+use Rattle.regions.specs.Needs.{pieces_needed}
 use Rattle.lower.proofs.Cuts.{taken_lies}
-use Rattle.lower.specs.Making.{AddsClaim, IsBegun, FetchMade, MayMake, with_first, FetchesMade, NestsMade, BodyMade, GroupMade}
-use Rattle.lower.specs.Groups.{line_behind, root_of, party_of, AreBodies, BodiesMade}
-
--- ---- lists
-
--- a list that is not empty, by its first and the others
-pub one_first : {A : Type 0} (xs : List A) (x : A) → 1 ≤ length xs → x ≡ get_or xs 0 x → xs ≡ x ∷ take (length xs - 1) (drop 1 xs)
-one_first [] x some is = absurd (omega (arith, some))
-one_first (y ∷ xs) x some is =
-    let all : length (y ∷ xs) - 1 ≡ length xs = omega arith in
-    λ i. sym is i ∷ sym (ap (λ (n : ℕ). take n xs) all ∙ take-length xs) i
-
--- some behind others, and more behind these
-behind_more : {A : Type 0} (old one new xs ys : List A) → one ≡ old ++ xs → new ≡ one ++ ys → new ≡ old ++ (xs ++ ys)
-behind_more old one new xs ys e h = h ∙ (ap (λ l. l ++ ys) e ∙ append_assoc old xs ys)
-
--- ---- one more claim
-
-pub claim_added : (line b d : ℕ) (x : List ℕ) (r : List Span1) (old new : List Claim) (claim : Claim) → claim.line ≡ line → claim.buffer ≡ b → string_bytes claim.function ≡ x
-    → claim.definition ≡ d → claim.region ≡ r
-    → new ≡ old ++ claim ∷ [] → AddsClaim line b x d r old new
-claim_added line b d x r old new claim after buffered named defined over added =
-    record { claim = claim; claims = record { after = after; buffered = buffered; named = named; defined = defined; over = over }; added = added }
+use Rattle.blocks.specs.Making.{AddsClaim, with_first, NestsMade}
+use Rattle.lower.specs.Making.{IsBegun, FetchMade, MayMake, FetchesMade, BodyMade, GroupMade}
+use Rattle.lower.specs.Groups.{line_behind, party_of, AreBodies, BodiesMade}
+use Rattle.sched.specs.Groups.{root_of}
+use Rattle.blocks.proofs.Claimed.{behind_more, lines_append, lines_stepped}
 
 -- ---- what is fetched
 
@@ -154,38 +133,6 @@ fetches_first s u us n h m e es (Some f) fs gs old one new may rest next is =
     (subst (λ (b : Bool). FetchesMade s u n (fetched_if b h e (fetched_groups us n (h + 1) es)) (f ∷ fs) old new) (sym may.0)
     (fetches_put s u n h e f (fetched_groups us n (h + 1) es) fs old one new may.1 may.2 others))
 
--- ---- lines
-
-pub lines_append : (xs ys : List Statement) → block_lines (block (xs ++ ys)) ≡ block_lines (block xs) + block_lines (block ys)
-lines_append [] ys = omega arith
-lines_append (x ∷ xs) ys =
-    let rest = lines_append xs ys in
-    omega (arith, rest)
-
-lines_stepped : (steps : List Step) (inner : Statements) → block_lines (lines_to steps inner) ≡ step_lines steps + block_lines inner
-lines_stepped [] inner = omega arith
-lines_stepped (Turns i x kind ∷ steps) inner = let rest = lines_stepped steps inner in omega (arith, rest)
-lines_stepped (Named i pick forms ∷ steps) inner = let rest = lines_stepped steps inner in omega (arith, rest)
-lines_stepped (Tested low high ∷ steps) inner = let rest = lines_stepped steps inner in omega (arith, rest)
-
-store_lines : (g : StoredText) (fs : List FormulaText) (ls : Loads) (d : ℕ) (n : NestText) (s : Statement) → IsStore g fs ls d n s → lines s ≡ 1
-store_lines g fs ls d n (Store b k cs e) h = refl
-store_lines g fs ls d n (Seq all) h = absurd h
-store_lines g fs ls d n (For i x kind body) h = absurd h
-store_lines g fs ls d n (Let i pick forms) h = absurd h
-store_lines g fs ls d n (First i a b) h = absurd h
-store_lines g fs ls d n (Guard low high body) h = absurd h
-store_lines g fs ls d n (Alloc b f places) h = absurd h
-store_lines g fs ls d n (Fetch b h region) is = absurd is
-store_lines g fs ls d n (Publish c) h = absurd h
-
--- a nest takes the lines of its steps, and one for the store
-nest_lines : (g : StoredText) (fs : List FormulaText) (ls : Loads) (d : ℕ) (n : NestText) (xs : List Statement) → IsNest g fs ls d n xs → block_lines (block xs) ≡ step_lines n.steps + 1
-nest_lines g fs ls d n xs h =
-    let one : lines h.store ≡ 1 = store_lines g fs ls d n h.store h.stores in
-    let all : block_lines (block xs) ≡ step_lines n.steps + block_lines (Then h.store Empty) = ap block_lines h.comes ∙ lines_stepped n.steps (Then h.store Empty) in
-    omega (arith, one, all)
-
 fetches_long : (fs : List FetchText) (xs : List Statement) → block_lines (block (with_fetches fs xs)) ≡ 2 * length fs + block_lines (block xs)
 fetches_long [] xs = omega arith
 fetches_long (f ∷ fs) xs = let rest = fetches_long fs xs in omega (arith, rest)
@@ -200,52 +147,6 @@ body_long g k places fetches nests p b with =
     let middle : block_lines (block (with_fetches fetches last)) ≡ 2 * length fetches + block_lines (block last) = fetches_long fetches last in
     let end : block_lines (block last) ≡ block_lines (block nests) + 1 = lines_append nests (Publish p ∷ []) in
     omega (arith, all, middle, end)
-
--- ---- nests
-
-module _ (g : StoredText) (fs : List FormulaText) (r : List Span1) (d : ℕ) where
-  pub nests_none : (xs : List Statement) (b : Body) → xs ≡ [] → NestsMade g fs r d [] xs b b
-  nests_none xs b e =
-      let line : b.line ≡ b.line + block_lines (block xs) = rw e (omega arith) in
-      record { claims = []; nested = (e, refl); claimed = sym (append-nil b.claims.items); counted = omega arith; lined = line; needed = refl; held = refl }
-
-  -- a nest and its claim, before those of the later definitions
-  pub nests_made : (n : NestText) (ns : List NestText) (j c k : ℕ) (xs ys zs : List Stmt) (old one new : Body) → IsNest g fs (map load_of old.loads.items) d n (list_statements xs)
-      → AddsClaim k 0 g.subject.name d r old.claims.items one.claims.items → one.next_claim ≡ old.next_claim + 1 → c ≡ old.next_claim
-      → map load_of one.loads.items ≡ map load_of old.loads.items ++ (g.subject.name, c) ∷ [] → one.needs.items ≡ old.needs.items → one.windows.items ≡ old.windows.items
-      → NestsMade g fs r j ns (list_statements ys) one new
-      → j ≡ d + 1 → zs ≡ xs ++ ys → one.line ≡ old.line + (step_lines n.steps + 1) → k ≡ one.line - 1 → NestsMade g fs r d (n ∷ ns) (list_statements zs) old new
-  nests_made n ns j c k xs ys zs old one new here a next number loads kept held rest i e lined after =
-      let x = g.subject.name in
-      let m = block_lines (block (list_statements xs)) in
-      let long : m ≡ step_lines n.steps + 1 = nest_lines g fs (map load_of old.loads.items) d n (list_statements xs) here in
-      let line : one.line ≡ old.line + m = omega (arith, lined, long) in
-      let at : k ≡ (old.line + m) - 1 = omega (arith, after, line) in
-      let known : map load_of one.loads.items ≡ map load_of old.loads.items ++ (x, old.next_claim) ∷ [] =
-      loads ∙ ap (λ (q : ℕ). map load_of old.loads.items ++ (x, q) ∷ []) number in
-      let by_loads : AreNests g fs r (map load_of old.loads.items ++ (x, old.next_claim) ∷ []) one.next_claim one.line j ns (list_statements ys) rest.claims =
-      subst (λ (l : Loads). AreNests g fs r l one.next_claim one.line j ns (list_statements ys) rest.claims) known rest.nested in
-      let by_number : AreNests g fs r (map load_of old.loads.items ++ (x, old.next_claim) ∷ []) (old.next_claim + 1) one.line j ns (list_statements ys) rest.claims =
-      subst (λ (q : ℕ). AreNests g fs r (map load_of old.loads.items ++ (x, old.next_claim) ∷ []) q one.line j ns (list_statements ys) rest.claims) next by_loads in
-      let by_line : AreNests g fs r (map load_of old.loads.items ++ (x, old.next_claim) ∷ []) (old.next_claim + 1) (old.line + m) j ns (list_statements ys) rest.claims =
-      subst (λ (q : ℕ). AreNests g fs r (map load_of old.loads.items ++ (x, old.next_claim) ∷ []) (old.next_claim + 1) q j ns (list_statements ys) rest.claims) line by_number in
-      let later : AreNests g fs r (map load_of old.loads.items ++ (x, old.next_claim) ∷ []) (old.next_claim + 1) (old.line + m) (d + 1) ns (list_statements ys) rest.claims =
-      subst (λ (q : ℕ). AreNests g fs r (map load_of old.loads.items ++ (x, old.next_claim) ∷ []) (old.next_claim + 1) (old.line + m) q ns (list_statements ys) rest.claims) i by_line in
-      let count : new.next_claim ≡ one.next_claim + length ns = rest.counted in
-      let claims : Claims ((old.line + m) - 1) 0 x d r a.claim = subst (λ (q : ℕ). Claims q 0 x d r a.claim) at a.claims in
-      let all : list_statements zs ≡ list_statements xs ++ list_statements ys = ap list_statements e ∙ map-append statement_of xs ys in
-      let others : new.line ≡ one.line + block_lines (block (list_statements ys)) = rest.lined in
-      let sum : block_lines (block (list_statements zs)) ≡ m + block_lines (block (list_statements ys)) =
-      ap (λ (l : List Statement). block_lines (block l)) all ∙ lines_append (list_statements xs) (list_statements ys) in
-      record {
-        claims = a.claim ∷ rest.claims;
-        nested = record { first = list_statements xs; others = list_statements ys; are = all; here = record { nest = here; claims = claims }; behind = later };
-        claimed = behind_more old.claims.items one.claims.items new.claims.items (a.claim ∷ []) rest.claims a.added rest.claimed;
-        counted = omega (arith, next, count);
-        lined = omega (arith, line, others, sum);
-        needed = rest.needed ∙ kept;
-        held = rest.held ∙ held;
-      }
 
 -- ---- the body
 

@@ -1,5 +1,6 @@
 -- The lines of what pieces do where functions are computed inside loops are as many as are counted.
-use Rattle.std.proofs.Common.{◌≡◌, ℕ, zero, suc, ◌+◌, ◌-◌, ◌*◌, ◌≤◌, Bool, true, false, not, ◌&&◌, List, [], ◌∷◌, ◌++◌, length, take, drop, Option, Some, None, refl, sym, ap, subst, ◌∙◌, arith}
+use Rattle.std.proofs.Common.{◌≡◌, ℕ, zero, suc, ◌+◌, ◌-◌, ◌*◌, ◌≤◌, Bool, true, false, not, ◌&&◌, List, [], ◌∷◌, ◌++◌, length, take, drop, Option, Some, None, refl, sym, ap, subst}
+use Rattle.std.proofs.Common.{arith}
 use Rattle.std.specs.Prelude.{slice_get, if◌then◌else◌}
 use Rattle.std.specs.List.{AllByRecursion}
 use Rattle.lin.specs.Forms.{Form}
@@ -15,17 +16,24 @@ use Rattle.sched.specs.declared.skeleton.Step.{Step}
 use Rattle.sched.specs.declared.skeleton.Step.TheVariants.{Turns, Named, Tested}
 use Rattle.sched.specs.Skeleton.{NestText}
 use Rattle.sched.specs.Standing.{◌>>=◌}
-use Rattle.lower.specs.declared.spots.Host.TheVariants.{Inner as Inside, Later as Anew}
-use Rattle.lower.specs.declared.spots.Spot.{Spot}
-use Rattle.lower.specs.Around.{names_with}
-use Rattle.lower.specs.Blocks.{dimensions_of, claimed_region, own_places}
-use Rattle.lower.specs.Bodies.{own_lines, step_lines}
+use Rattle.sched.specs.declared.hosts.Host.TheVariants.{Inner as Inside, Later as Anew}
+use Rattle.sched.specs.declared.hosts.Spot.{Spot}
+use Rattle.sched.specs.Around.{names_with}
+use Rattle.blocks.specs.Blocks.{dimensions_of, claimed_region, own_places}
+use Rattle.blocks.specs.Bodies.{own_lines, step_lines}
 use Rattle.lower.specs.Counted.{IsLet, HasLets}
-use Rattle.lower.specs.Fetches.{Entry}
-use Rattle.lower.specs.Loading.{Loads, as_load}
-use Rattle.lower.specs.Renamed.{Pairs, value_in, forms_renamed, places_renamed, region_renamed, span_renamed, step_renamed, coordinates_renamed}
-use Rattle.lower.specs.Placed.{LaterText, PlacedText, OwnerText, SoFar, Made, nothing, both, with_lines, with_symbol, with_name, with_loads, bound_by, around, coordinates_by, store_by, store_in, stored, with_claim, claimed, seated, same_spot, buffer_at, buffers_at, Nests, own_buffer, function_at, functions_at, numbers_down, all_at, spot, step_in, walk, walk_apart, nests_from, lets, owner, all_turns, let_count, fold_of, held, arm, arms, first_lets, first_and_later, sliding_turns, turns, computed, over_grid, group_nests, group_owner, names_over, with_fetched, begun, IsMixedBody}
-use Rattle.lower.proofs.Claimed.{lines_append, body_long}
+use Rattle.sched.specs.Fetches.{Entry}
+use Rattle.sched.specs.Loading.{Loads, as_load}
+use Rattle.sched.specs.Renamed.{Pairs, value_in, forms_renamed, region_renamed, span_renamed, step_renamed, coordinates_renamed}
+use Rattle.blocks.specs.Renamed.{places_renamed}
+use Rattle.sched.specs.Placed.{LaterText, PlacedText, OwnerText, SoFar, Made, with_lines, with_symbol, with_name, bound_by, around, coordinates_by, store_by, store_in, stored, with_claim}
+use Rattle.sched.specs.Placed.{claimed, spot, lets}
+use Rattle.blocks.specs.Placed.{nothing, both, with_loads, seated, same_spot, buffer_at, buffers_at, Nests, own_buffer, function_at, functions_at, numbers_down, all_at, step_in, walk}
+use Rattle.blocks.specs.Placed.{walk_apart, nests_from, owner, all_turns, let_count, fold_of, held, arm, arms, first_lets, first_and_later, sliding_turns, turns, computed, over_grid}
+use Rattle.blocks.specs.Placed.{group_nests, group_owner, names_over, begun}
+use Rattle.lower.specs.Placed.{with_fetched, IsMixedBody}
+use Rattle.blocks.proofs.Claimed.{lines_append}
+use Rattle.lower.proofs.Claimed.{body_long}
 
 -- ---- what is made has a value
 

@@ -1,5 +1,6 @@
 -- The blocks of pieces make up a region, dimension by dimension.
-use Rattle.std.proofs.Common.{◌≡◌, ℕ, zero, suc, ◌<◌, Bool, true, false, ◌||◌, List, [], ◌∷◌, ◌++◌, map, slice_get, Option, Some, None, refl, sym, ap, ◌∙◌, subst, inl, inr, arith, ℤ, pos, ◌≤ℤ◌}
+use Rattle.std.proofs.Common.{◌≡◌, ℕ, zero, suc, ◌<◌, Bool, true, false, ◌||◌, List, [], ◌∷◌, ◌++◌, map, slice_get, Option, Some, None, refl, sym, ap, ◌∙◌, subst, inl, inr, arith, ℤ, pos}
+use Rattle.std.proofs.Common.{◌≤ℤ◌}
 use Rattle.std.specs.Prelude.{◌+ℤ◌, ◌-ℤ◌, ◌⊎◌, if◌then◌else◌}
 use Rattle.std.specs.List.{AllByRecursion, list_any}
 use Rattle.std.proofs.lemmas.Int.{ints}
@@ -20,7 +21,7 @@ use Rattle.sched.specs.Placing.{has_double, is_parallel}
 use Rattle.sched.specs.Numbers.{blocks, numbers_named, last_number, parallel_loops, grid_counts, or_one}
 use Rattle.sched.specs.Visits.{IsInExtents, IsInGrid}
 use Rattle.sched.proofs.Numbering.{with_two, with_first, with_second, with_other, apart_names, pos_clipped}
-use Rattle.lower.specs.Blocks.{raised, BlockText, PartText, Whole, Run, Scattered, LayText, block_span, part_of, dimension_by, dimension_of, owned_region}
+use Rattle.blocks.specs.Blocks.{raised, BlockText, PartText, Whole, Run, Scattered, LayText, block_span, part_of, dimension_by, dimension_of, owned_region}
 use Rattle.lower.specs.Owning.{turn_named, IsTurn, block_of, place_of, EitherBy, Belongs, is_scattered, IsExtent}
 use Rattle.lower.proofs.Dividing.{nearest, nearest_of_small, nearest_order, nearest_below}
 use Rattle.lower.proofs.Blocking.{number_value, multiple_value, one_time, InRun, PartFits, IsSmall, CutFits, fall, block_first, block_last, few_numbers}

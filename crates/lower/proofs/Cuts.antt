@@ -6,17 +6,17 @@ use Rattle.std.proofs.lemmas.List.Elements.{All-cons, All-nil}
 use Rattle.std.specs.List.{All}
 use Rattle.std.specs.Prelude.{ℤ, pos, ◌+ℤ◌, ◌-ℤ◌, ◌≤ℤ◌, int_lt, if◌then◌else◌, slice_get}
 use Rattle.lin.specs.Forms.{Form, number, value_of}
-use Rattle.lin.specs.Spans.{IsInSpan}
 use Rattle.lin.specs.declared.span.Span1.{Span1}
 use Rattle.sched.specs.declared.numbers.Extent.{Extent}
-use Rattle.lower.specs.Bounded.{whole}
+use Rattle.sched.specs.Bounded.{whole}
 use Rattle.lin.specs.declared.scope.Binding.{Binding}
 use Rattle.plan.specs.declared.stmt.Places.{Places}
 use Rattle.plan.specs.declared.stmt.Places.TheVariants.{From}
 use Rattle.sched.specs.Standing.{◌>>=◌}
-use Rattle.lower.specs.declared.fetching.Part.{Part}
+use Rattle.regions.specs.declared.fetching.Part.{Part}
 use Rattle.lower.specs.Fetches.{LiesIn, LieIn, Calls, IsTaken}
-use Rattle.lower.specs.Taken.{SiteText, is_number, add_symbolic, greatest_from, least_from, cut, shortest, run_of, places_count, is_shown, seated, tight, or_all, part_of, needed_span, taken_region}
+use Rattle.sched.specs.Taken.{SiteText, shortest, run_of, places_count}
+use Rattle.regions.specs.Taken.{is_number, add_symbolic, greatest_from, least_from, cut, is_shown, seated, tight, or_all, part_of, needed_span, taken_region}
 
 -- what holds of all of some forms and one more holds of that one
 last_of : (P : Form → Type 0) (xs : List Form) (x : Form) → All P (xs ++ x ∷ []) → P x

@@ -1,5 +1,6 @@
 -- What directives make of a function's loops: each is at the end of the splits of one variable, and each split makes names that were not there.
-use Rattle.std.proofs.Common.{◌≡◌, ℕ, suc, ◌+◌, ◌≤◌, Bool, true, false, not, ◌&&◌, ◌||◌, List, [], ◌∷◌, ◌++◌, length, map, slice_get, Option, Some, None, Result, Ok, Err, refl, sym, ap, ◌∙◌, subst, inl, inr, arith, append_assoc, length-append}
+use Rattle.std.proofs.Common.{◌≡◌, ℕ, suc, ◌+◌, ◌≤◌, Bool, true, false, not, ◌&&◌, ◌||◌, List, [], ◌∷◌, ◌++◌, length, map, slice_get, Option, Some, None, Result, Ok, Err, refl, sym, ap}
+use Rattle.std.proofs.Common.{◌∙◌, subst, inl, inr, arith, append_assoc, length-append}
 use Rattle.std.specs.Prelude.{◌⊎◌, ◌==◌, nat_lt, if◌then◌else◌}
 use Rattle.std.specs.List.{AllByRecursion, flat_map}
 use Rattle.std.proofs.lemmas.Bool.Decides.{nat_tests}
@@ -14,7 +15,9 @@ use Rattle.sched.specs.declared.placing.Mark.TheVariants as mark
 use Rattle.sched.specs.declared.schedule.Split.{Split}
 use Rattle.sched.specs.declared.schedule.Tile.{Tile}
 use Rattle.sched.specs.Schedule.{DirectiveText, compute_root, compute_at, store_at, fold, split, tile, reorder, unroll, vectorize, parallel}
-use Rattle.sched.specs.Placing.{SubjectText, PlacedText, has_loop, is_known, breaks_split, cut_loop, cut, split_in, has_double, loop_named, with_next, loops_named, or_next, filled, all_known, any_reduction, reorder_in, mark_loop, marked, breaks_mark, breaks_parallel, mark_in, parallel_in, and_next, x_split, y_split, tile_in, applied, starting, start, all_in}
+use Rattle.sched.specs.Placing.{SubjectText, PlacedText, has_loop, is_known, breaks_split, cut_loop, cut, split_in, has_double, loop_named, with_next, loops_named, or_next, filled}
+use Rattle.sched.specs.Placing.{all_known, any_reduction, reorder_in, mark_loop, marked, breaks_mark, breaks_parallel, mark_in, parallel_in, and_next, x_split, y_split, tile_in, applied}
+use Rattle.sched.specs.Placing.{starting, start, all_in}
 
 -- ---- splits, one behind another
 

@@ -8,19 +8,24 @@ use Rattle.meaning.specs.Algorithm.{Algorithm}
 use Rattle.std.proofs.lemmas.Bool.{false≢true}
 use Rattle.sched.specs.declared.numbers.Extent.{Extent}
 use Rattle.sched.specs.Standing.{◌>>=◌}
-use Rattle.lower.specs.declared.regions.Ends.{Ends}
-use Rattle.lower.specs.Lacking.{stored_calls}
-use Rattle.lower.specs.Stored.{FormulaText, StoredText, is_large, has_large}
-use Rattle.lower.specs.Regions.{LaidText, count_of, is_i32, are_within, extent_between, may_have, extent_of, region_of, add_output, add_users, unreached, reach_of, laid_over, laid_by}
-use Rattle.lower.specs.Regions.{laid_within, laid_functions}
-use Rattle.lower.specs.declared.legality.Totals.{Totals}
+use Rattle.regions.specs.declared.regions.Ends.{Ends}
+use Rattle.regions.specs.Lacking.{stored_calls}
+use Rattle.sched.specs.Stored.{FormulaText, StoredText}
+use Rattle.regions.specs.Stored.{is_large}
+use Rattle.lower.specs.Stored.{has_large}
+use Rattle.sched.specs.Regions.{LaidText, count_of}
+use Rattle.regions.specs.Regions.{is_i32, are_within, extent_between, may_have, extent_of, region_of, add_output, add_users, unreached, reach_of, laid_over, laid_by, laid_within}
+use Rattle.regions.specs.Regions.{laid_functions}
+use Rattle.blocks.specs.declared.legality.Totals.{Totals}
 use Rattle.sched.specs.declared.region_rule.RegionRule.{RegionRule}
 use Rattle.sched.specs.declared.region_rule.RegionRule.TheVariants.{Unbounded}
 use Rattle.algo.specs.Scoping.Standing.{Written}
-use Rattle.lower.specs.Faults.{no_totals, totals_with, unless_left, fault_of, fault_by, or_later, first_laid, other_laid, fault_from, calls_of_large, region_fault}
+use Rattle.lower.specs.Faults.{no_totals, fault_of, fault_by, or_later, fault_from, calls_of_large, region_fault}
+use Rattle.blocks.specs.Faults.{totals_with, unless_left, first_laid, other_laid}
 use Rattle.lower.specs.Owning.{IsExtent}
-use Rattle.lower.proofs.Gathering.{none_gathered}
-use Rattle.lower.proofs.Laying.{IsLaidOver, bound, same, laid_over_it}
+use Rattle.regions.proofs.Gathering.{none_gathered}
+use Rattle.lower.proofs.Laying.{IsLaidOver, laid_over_it}
+use Rattle.blocks.proofs.Laying.{bound, same}
 use Rattle.lower.proofs.Reached.{Grows, if_some, grows_users, grows_output, laid_found, region_length}
 
 and_parts : (a b : Bool) → (a && b) ≡ true → (a ≡ true) × (b ≡ true)

@@ -1,5 +1,6 @@
 -- What a piece fetches of a function holds each point that its own function calls of that one.
-use Rattle.std.proofs.Common.{◌≡◌, ◌≤◌, ℕ, zero, suc, ◌+◌, Bool, true, false, List, [], ◌∷◌, ◌++◌, length, map, Option, Some, None, refl, sym, ap, subst, ◌∙◌, append_assoc, append-nil, arith}
+use Rattle.std.proofs.Common.{◌≡◌, ◌≤◌, ℕ, zero, suc, ◌+◌, Bool, true, false, List, [], ◌∷◌, ◌++◌, length, map, Option, Some, None, refl, sym, ap, subst, ◌∙◌, append_assoc, append-nil}
+use Rattle.std.proofs.Common.{arith}
 use Rattle.std.proofs.lemmas.Bool.{lt-ltb}
 use Rattle.std.proofs.lemmas.Int.{ints}
 use Rattle.std.specs.Prelude.{ℤ, pos, negsuc, ◌+ℤ◌, ◌-ℤ◌, ◌*ℤ◌, ◌≤ℤ◌, ◌^◌, ◌-◌, min, int_le, int_lt, IsSome, if◌then◌else◌, slice_get}
@@ -26,17 +27,19 @@ use Rattle.sched.specs.Standing.{◌>>=◌}
 use Rattle.plan.specs.Symbols.{Symbols}
 use Rattle.plan.specs.Rooms.{Straight, below, joined, place, room, seat}
 use Rattle.plan.specs.declared.stmt.Places.TheVariants.{From}
-use Rattle.lower.specs.declared.fetching.Part.{Part}
-use Rattle.lower.specs.Called.{called}
-use Rattle.lower.specs.Blocks.{difference}
-use Rattle.lower.specs.Windows.{size_below}
-use Rattle.lower.specs.Stored.{FormulaText, StoredText, calls_in}
-use Rattle.lower.specs.Around.{AroundText, interval_in, around, grid_scope, head_scope}
-use Rattle.lower.specs.Regions.{LaidText}
-use Rattle.lower.specs.Bounded.{whole}
-use Rattle.lower.specs.Taken.{SiteText, sites_of, add_spans, add_call, add_calls, add_site, add_asked, add_sites, with_site, holds_call, holds_calls, hold_calls, at_least_one, shorter, shortest_from, shortest, run_of, places_count, is_shown, shown, seated, needed_part, tight, part_of, or_all, taken_places, taken_region}
+use Rattle.regions.specs.declared.fetching.Part.{Part}
+use Rattle.sched.specs.Called.{called}
+use Rattle.sched.specs.Blocks.{difference}
+use Rattle.sched.specs.Windows.{size_below}
+use Rattle.sched.specs.Stored.{FormulaText, StoredText, calls_in}
+use Rattle.sched.specs.Around.{AroundText, interval_in, around, grid_scope, head_scope}
+use Rattle.sched.specs.Regions.{LaidText}
+use Rattle.sched.specs.Bounded.{whole}
+use Rattle.sched.specs.Taken.{SiteText, at_least_one, shorter, shortest_from, shortest, run_of, places_count}
+use Rattle.regions.specs.Taken.{sites_of, add_spans, add_call, add_calls, add_site, add_asked, add_sites, with_site, holds_call, holds_calls, hold_calls, is_shown, shown, seated}
+use Rattle.regions.specs.Taken.{needed_part, tight, part_of, or_all, taken_places, taken_region}
 use Rattle.lower.specs.Held.{AreTyped, CallsAt, FetchesHavePlaces, FetchesHoldCalls}
-use Rattle.lower.proofs.Laying.{Bound, bound, same}
+use Rattle.blocks.proofs.Laying.{Bound, bound, same}
 use Rattle.lower.proofs.Reached.{none_is, regions_hold}
 
 -- ---- lists

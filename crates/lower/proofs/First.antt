@@ -1,36 +1,23 @@
 -- The first function that breaks a rule by its region, where each is a whole function.
-use Rattle.std.proofs.Common.{◌≡◌, ℕ, zero, suc, ◌-◌, ◌<◌, true, List, [], ◌∷◌, length, map, take, drop, arith, Option, Some, None, sym, ap, ◌∙◌, inl}
+-- What crates below need of it stands there: `blocks`.
+use Rattle.std.proofs.Common.{◌≡◌, ℕ, zero, suc, ◌-◌, ◌<◌, true, List, [], ◌∷◌, length, take, drop, arith, Option, Some, None, sym, ap, ◌∙◌, inl}
 use Rattle.std.specs.Prelude.{get_or}
-use Rattle.std.specs.Option.{option_map}
-use Rattle.std.specs.Global.{Vec}
 use Rattle.std.proofs.Math.Seq.{take-length}
 use Rattle.meaning.specs.Algorithm.{Algorithm}
 use Rattle.algo.specs.Scoping.Standing.{Written}
 use Rattle.sched.specs.declared.region_rule.RegionRule.{RegionRule}
-use Rattle.lower.specs.declared.legality.Totals.{Totals}
-use Rattle.lower.specs.declared.definitions.Formula.{Formula}
-use Rattle.lower.specs.declared.definitions.Stored.{Stored}
-use Rattle.lower.specs.Stored.{StoredText, formula_of, stored_of}
-use Rattle.lower.specs.Regions.{LaidText, laid_functions}
-use Rattle.lower.specs.Faults.{are_whole, or_later, fault_of, totals_by, totals_with, first_laid, other_laid, fault_from, no_totals, calls_of_large, IsFirstOf, region_fault}
+use Rattle.blocks.specs.declared.legality.Totals.{Totals}
+use Rattle.sched.specs.declared.definitions.Stored.{Stored}
+use Rattle.sched.specs.Stored.{StoredText}
+use Rattle.sched.specs.Regions.{LaidText}
+use Rattle.regions.specs.Regions.{laid_functions}
+use Rattle.regions.specs.Faults.{are_whole}
+use Rattle.lower.specs.Faults.{or_later, fault_of, fault_from, no_totals, calls_of_large, IsFirstOf, region_fault}
+use Rattle.blocks.specs.Faults.{totals_with, first_laid, other_laid}
 use Rattle.lower.specs.Refused.{IsFirst}
 
 abbrev pub Fault : Type 0
 Fault = RegionRule × List ℕ
-
--- ---- the definitions of a stored function
-
-pub formulas_at : (s : Stored) (v : Vec Formula) → s.formulas ≡ Some v → (stored_of s).formulas ≡ Some (map formula_of v.items)
-formulas_at s v e = ap (option_map (λ (w : Vec Formula). map formula_of w.items)) e
-
-pub no_formulas : (s : Stored) → s.formulas ≡ None → (stored_of s).formulas ≡ None
-no_formulas s e = ap (option_map (λ (w : Vec Formula). map formula_of w.items)) e
-
-pub totals_found : (t : Totals) (s : Stored) (v : Vec Formula) (l : Option LaidText) → s.formulas ≡ Some v → totals_with t (stored_of s) l ≡ totals_by t (Some (map formula_of v.items)) l
-totals_found t s v l e = ap (λ o. totals_by t o l) (formulas_at s v e)
-
-pub totals_large : (t : Totals) (s : Stored) (l : Option LaidText) → s.formulas ≡ None → totals_with t (stored_of s) l ≡ t
-totals_large t s l e = ap (λ o. totals_by t o l) (no_formulas s e)
 
 -- ---- one after another, as memory keeps the functions
 

@@ -29,14 +29,15 @@ use Rattle.sched.specs.declared.skeleton.Step.TheVariants.{Turns, Named, Tested}
 use Rattle.sched.specs.Skeleton.{NestText, SkeletonText}
 use Rattle.sched.specs.Order.{Ordered}
 use Rattle.sched.specs.Standing.{◌>>=◌}
-use Rattle.lower.specs.declared.fetching.Part.{Part}
-use Rattle.lower.specs.Stored.{FormulaText, StoredText, calls_in}
-use Rattle.lower.specs.Around.{AroundText, anything, skip_to, bind, bind_step, bind_steps, grid_symbol, grid_scope, head_scope, left_around, coordinates_behind, around}
-use Rattle.lower.specs.Bounded.{whole}
-use Rattle.lower.specs.Regions.{symbols_from}
-use Rattle.lower.specs.Taken.{SiteText, add_calls, with_site, add_site, add_asked, add_sites, sites_of, freed, either, with_call, with_calls, with_sites, needed_span, is_number, add_symbolic}
-use Rattle.lower.specs.Taken.{greatest_from, least_from, cut, shortest, run_of, places_count, or_all, is_shown, shown, seated, needed_part, tight, part_of, taken_region}
-use Rattle.lower.proofs.Laying.{bound, same}
+use Rattle.regions.specs.declared.fetching.Part.{Part}
+use Rattle.sched.specs.Stored.{FormulaText, StoredText, calls_in}
+use Rattle.sched.specs.Around.{AroundText, anything, skip_to, bind, bind_step, bind_steps, grid_symbol, grid_scope, head_scope, left_around, coordinates_behind, around}
+use Rattle.sched.specs.Bounded.{whole}
+use Rattle.sched.specs.Regions.{symbols_from}
+use Rattle.sched.specs.Taken.{SiteText, freed, shortest, run_of, places_count}
+use Rattle.regions.specs.Taken.{add_calls, with_site, add_site, add_asked, add_sites, sites_of, either, with_call, with_calls, with_sites, needed_span, is_number, add_symbolic}
+use Rattle.regions.specs.Taken.{greatest_from, least_from, cut, or_all, is_shown, shown, seated, needed_part, tight, part_of, taken_region}
+use Rattle.blocks.proofs.Laying.{bound, same}
 
 -- ---- forms without some symbols
 

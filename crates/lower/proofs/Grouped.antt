@@ -1,4 +1,5 @@
 -- Groups in whose loops functions are computed, as they are made one after another.
+-- What crates below need of it stands there: `blocks`.
 use Rattle.std.proofs.Common.{◌≡◌, ℕ, ◌+◌, ◌-◌, ◌*◌, ◌<◌, true, false, List, [], ◌∷◌, ◌++◌, length, map, Option, Some, None, Result, Ok, Err, refl, sym, ap, subst, ◌∙◌, arith}
 use Rattle.std.specs.Global.{Vec}
 use Rattle.std.proofs.lemmas.List.{append_assoc, append-nil, length-append, length-map, map-append}
@@ -14,19 +15,26 @@ use Rattle.plan.specs.Plan.{Statement}
 use Rattle.plan.specs.Lines.{lines}
 use Rattle.plan.specs.View.{statement_of}
 use Rattle.sched.specs.Skeleton.{SkeletonText}
-use Rattle.lower.specs.declared.fetching.Root.{Root}
-use Rattle.lower.specs.declared.group.Body.{Body}
-use Rattle.lower.specs.declared.inner.Inner.{Inner}
+use Rattle.sched.specs.declared.roots.Root.{Root}
+use Rattle.blocks.specs.declared.group.Body.{Body}
+use Rattle.sched.specs.declared.hosts.Inner.{Inner}
 use Rattle.lower.specs.declared.parties.Party.{Party}
-use Rattle.lower.specs.declared.whole.Fetch.{Fetch as CodeFetch}
-use Rattle.lower.specs.Loading.{load_of}
-use Rattle.lower.specs.Fetches.{Entry, FetchText, loads_from, fetch_seen}
-use Rattle.lower.specs.Blocks.{dimensions_of, claimed_region, own_places}
-use Rattle.lower.specs.Bodies.{first_lines, IsBodyWith}
-use Rattle.lower.specs.Making.{IsBegun, FetchMade, with_first, GroupMade}
-use Rattle.lower.specs.Placed.{PlacedText, SoFar, seat_of, so_far, group_owner, nests_over_grid, HasSome, numbered, picked, AreFetchedBy, with_fetched, begun, MayFetch, FetchesBy, inner_seen}
+use Rattle.blocks.specs.declared.whole.Fetch.{Fetch as CodeFetch}
+use Rattle.blocks.specs.Loading.{load_of}
+use Rattle.sched.specs.Fetches.{Entry}
+use Rattle.blocks.specs.Fetches.{FetchText, fetch_seen}
+use Rattle.lower.specs.Fetches.{loads_from}
+use Rattle.blocks.specs.Blocks.{dimensions_of, claimed_region, own_places}
+use Rattle.blocks.specs.Bodies.{first_lines, IsBodyWith}
+use Rattle.lower.specs.Making.{IsBegun, FetchMade, GroupMade}
+use Rattle.blocks.specs.Making.{with_first}
+use Rattle.sched.specs.Placed.{PlacedText, SoFar, inner_seen}
+use Rattle.blocks.specs.Placed.{seat_of, so_far, group_owner, nests_over_grid, HasSome, begun}
+use Rattle.lower.specs.Placed.{numbered, picked, AreFetchedBy, with_fetched, MayFetch, FetchesBy}
 use Rattle.lower.specs.Computed.{AreFound, AreAllFound, AreFoundIf, AreFoundIn}
-use Rattle.lower.specs.Groups.{root_of, party_of, inners_of, placed_of, line_behind, AreBodiesBy, MixedMade, GroupBy, GroupsBy, IsKnown, AreKnown, AreFoundOf, AreAllFoundIf, all_known, inside_of, inside_at, placed_in}
+use Rattle.sched.specs.Groups.{root_of}
+use Rattle.lower.specs.Groups.{party_of, inners_of, placed_of, line_behind, AreBodiesBy, MixedMade, GroupBy, GroupsBy, IsKnown, AreKnown, AreFoundOf, AreAllFoundIf, all_known, inside_of}
+use Rattle.lower.specs.Groups.{inside_at, placed_in}
 use Rattle.lower.specs.Homes.{AreAtHome, AreAllAtHome}
 
 -- ---- lists
@@ -34,14 +42,6 @@ use Rattle.lower.specs.Homes.{AreAtHome, AreAllAtHome}
 -- some behind others, and more behind these
 behind_more : {A : Type 0} (old one new xs ys : List A) → one ≡ old ++ xs → new ≡ one ++ ys → new ≡ old ++ (xs ++ ys)
 behind_more old one new xs ys e h = h ∙ (ap (λ l. l ++ ys) e ∙ append_assoc old xs ys)
-
-none_inside : (inners : List Inner) → length inners < 1 → HasSome (map inner_seen inners) → ⊥
-none_inside [] none some = some
-none_inside (i ∷ is) none some = omega (arith, none)
-
--- no list with an element has none
-pub nothing_inside : {A : Type 0} (inners : List Inner) → length inners < 1 → HasSome (map inner_seen inners) → A
-nothing_inside inners none some = absurd (none_inside inners none some)
 
 -- ---- what is fetched
 

@@ -1,5 +1,6 @@
 -- The nest in which positions are told to be at most last numbers comes to all that the nest itself comes to where they are, and to nothing past them.
-use Rattle.std.proofs.Common.{◌≡◌, ◌≤◌, ◌<◌, ◌+◌, ◌-◌, ◌==◌, ℕ, zero, suc, Bool, true, false, not, ◌&&◌, ◌||◌, List, [], ◌∷◌, ◌++◌, length, map, slice_get, Option, Some, None, refl, sym, ap, subst, ◌∙◌, inl, inr, arith}
+use Rattle.std.proofs.Common.{◌≡◌, ◌≤◌, ◌<◌, ◌+◌, ◌-◌, ◌==◌, ℕ, zero, suc, Bool, true, false, not, ◌&&◌, ◌||◌, List, [], ◌∷◌, ◌++◌, length, map, slice_get, Option, Some, None, refl, sym}
+use Rattle.std.proofs.Common.{ap, subst, ◌∙◌, inl, inr, arith}
 use Rattle.std.specs.Prelude.{ℤ, pos, negsuc, ◌+ℤ◌, ◌-ℤ◌, ◌*ℤ◌, ◌≤ℤ◌, ◌<ℤ◌, int_lt, int_le, cond, fold, filter, replicate, if◌then◌else◌, nat_lt}
 use Rattle.std.specs.List.{AllByRecursion, list_any}
 use Rattle.std.specs.Int.{int_min}
@@ -27,13 +28,14 @@ use Rattle.sched.specs.Standing.{◌>>=◌, alone, last_term}
 use Rattle.sched.specs.Visits.{picked}
 use Rattle.sched.proofs.Leading.{In, Leads, arrived, arrives_at, leads_on, leads_apart, min_least, min_says}
 use Rattle.sched.proofs.Told.{Keeps, keeps_on, kept_value, bind_here, bind_keeps, IsLast, IsTold, told_alone}
-use Rattle.lower.specs.Around.{anything, bind, bind_steps, skip_to}
-use Rattle.lower.specs.Guarded.{only, last_if, is_guarding, last_number, ToldText, is_open_loop, open_term, innermost, is_joined, keep_by_let, keep_by, keep, keep_if, told_at, add_told, told_from}
-use Rattle.lower.specs.Parted.{is_telling, told_among, told_forms}
-use Rattle.lower.specs.Settled.{limited_span, limited}
-use Rattle.lower.specs.Stored.{StoredText}
+use Rattle.sched.specs.Around.{anything, bind, bind_steps, skip_to}
+use Rattle.regions.specs.Guarded.{only, last_if, is_guarding, last_number, ToldText, is_open_loop, open_term, innermost, is_joined, keep_by_let, keep_by, keep, keep_if, told_at, add_told}
+use Rattle.regions.specs.Guarded.{told_from}
+use Rattle.sched.specs.Parted.{is_telling, told_among, told_forms}
+use Rattle.sched.specs.Settled.{limited_span, limited}
+use Rattle.sched.specs.Stored.{StoredText}
 use Rattle.lower.specs.Visited.{AreRising, HasEnd, AreEnded, IsOver, coordinate, IsAtMost, AreAtMost, IsKept, AreKept, ComesTo, ToldNestsComeToAll, ToldNumbersAreKept}
-use Rattle.lower.proofs.Laying.{bound, same}
+use Rattle.blocks.proofs.Laying.{bound, same}
 
 -- ---- the last symbol of a form
 

@@ -1,5 +1,6 @@
 -- What calls need of a function holds each of them.
-use Rattle.std.proofs.Common.{◌≡◌, ℕ, zero, suc, ◌+◌, ◌-◌, Bool, true, false, List, [], ◌∷◌, ◌++◌, length, map, Option, Some, None, refl, sym, ap, subst, ◌∙◌, inl, inr, append-nil, append_assoc, arith}
+use Rattle.std.proofs.Common.{◌≡◌, ℕ, zero, suc, ◌+◌, ◌-◌, Bool, true, false, List, [], ◌∷◌, ◌++◌, length, map, Option, Some, None, refl, sym, ap, subst, ◌∙◌, inl, inr, append-nil}
+use Rattle.std.proofs.Common.{append_assoc, arith}
 use Rattle.std.proofs.lemmas.List.Elements.{recursion_from_All, All-from_recursion}
 use Rattle.std.specs.Prelude.{ℤ, if◌then◌else◌, slice_get}
 use Rattle.std.specs.List.{AllByRecursion}
@@ -12,13 +13,14 @@ use Rattle.bounds.proofs.SpanSound.{Low, High, Lies, either-lies}
 use Rattle.bounds.proofs.ProjectionSound.{span-holds}
 use Rattle.sched.specs.declared.numbers.Extent.{Extent}
 use Rattle.sched.specs.Standing.{◌>>=◌}
-use Rattle.lower.specs.Stored.{StoredText}
-use Rattle.lower.specs.Bounded.{whole}
-use Rattle.lower.specs.Regions.{symbols_from}
-use Rattle.lower.specs.Taken.{SiteText, freed, either, with_call, with_calls, with_sites, needed_span}
-use Rattle.lower.specs.Demanded.{is_scattered, needed_dimension, add_needed, needed_region}
+use Rattle.sched.specs.Stored.{StoredText}
+use Rattle.sched.specs.Bounded.{whole}
+use Rattle.sched.specs.Regions.{symbols_from}
+use Rattle.sched.specs.Taken.{SiteText, freed}
+use Rattle.regions.specs.Taken.{either, with_call, with_calls, with_sites, needed_span}
+use Rattle.regions.specs.Demanded.{is_scattered, needed_dimension, add_needed}
 use Rattle.lower.specs.Held.{NeedsHoldCalls}
-use Rattle.lower.proofs.Laying.{Bound, bound, same}
+use Rattle.blocks.proofs.Laying.{bound, same}
 
 -- ---- spans
 

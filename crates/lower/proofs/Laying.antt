@@ -1,30 +1,21 @@
 -- The loops of a region that was found are those of the skeleton over it.
+-- What crates below need of it stands there: `blocks`.
 use Rattle.std.proofs.Common.{◌≡◌, ℕ, zero, suc, Bool, true, false, List, [], ◌∷◌, Option, Some, None, refl, sym, ap, subst, ◌∙◌}
 use Rattle.std.specs.Prelude.{if◌then◌else◌}
 use Rattle.meaning.specs.Algorithm.{Algorithm}
 use Rattle.sched.specs.declared.numbers.Extent.{Extent}
 use Rattle.sched.specs.Skeleton.{SkeletonText}
 use Rattle.sched.specs.Standing.{◌>>=◌}
-use Rattle.lower.specs.declared.regions.Ends.{Ends}
-use Rattle.lower.specs.Stored.{FormulaText, StoredText}
-use Rattle.lower.specs.Around.{head_scope}
-use Rattle.lower.specs.Regions.{LaidText, add_all_own, region_of, same_region, skeleton_of, over, closed, reach_of, laid_over, laid_by, laid_within, laid_functions}
+use Rattle.regions.specs.declared.regions.Ends.{Ends}
+use Rattle.sched.specs.Stored.{FormulaText, StoredText}
+use Rattle.sched.specs.Around.{head_scope}
+use Rattle.sched.specs.Regions.{LaidText}
+use Rattle.regions.specs.Regions.{add_all_own, region_of, same_region, skeleton_of, over, closed, reach_of, laid_over, laid_by, laid_within, laid_functions}
 use Rattle.lower.specs.Groups.{IsOverRegion, AreOverRegions}
+use Rattle.blocks.proofs.Laying.{bound, same}
 
 abbrev pub IsLaidOver : StoredText → List FormulaText → LaidText → Type 0
 IsLaidOver g fs x = skeleton_of g fs x.region ≡ Some x.skeleton
-
-pub record Bound {A B : Type 0} (o : Option A) (f : A → Option B) (y : B) : Type 0 where
-  pub value : A
-  pub is : o ≡ Some value
-  pub comes : f value ≡ Some y
-
-pub bound : {A B : Type 0} (o : Option A) (f : A → Option B) (y : B) → (o >>= f) ≡ Some y → Bound o f y
-bound (Some x) f y h = record { value = x; is = refl; comes = h }
-bound None f y h = absurd cc
-
-pub same : {A : Type 0} (x y : A) → Some x ≡ Some y → x ≡ y
-same x y h = ap (λ o. elim o [ Some z ↦ z | None ↦ x ]) h
 
 over_it : (g : StoredText) (fs : List FormulaText) (region : List Extent) (x : LaidText) → over g fs region ≡ Some x → IsLaidOver g fs x
 over_it g fs region x h =

@@ -10,14 +10,17 @@ use Rattle.plan.specs.declared.certificate.cert.Claim.{Claim}
 use Rattle.plan.specs.declared.certificate.cert.Need.{Need}
 use Rattle.meaning.specs.Algorithm.{Algorithm}
 use Rattle.lower.specs.declared.lowering.Lowered.{Lowered}
-use Rattle.lower.specs.Stored.{FormulaText, StoredText}
-use Rattle.lower.specs.Regions.{LaidText, laid_within, laid_functions}
-use Rattle.lower.specs.Around.{grid_scope}
+use Rattle.sched.specs.Stored.{FormulaText, StoredText}
+use Rattle.sched.specs.Regions.{LaidText}
+use Rattle.regions.specs.Regions.{laid_within, laid_functions}
+use Rattle.sched.specs.Around.{grid_scope}
 use Rattle.lower.specs.Heads.{IsHeadOf}
-use Rattle.lower.specs.Faults.{is_homeless, is_whole, are_whole}
+use Rattle.regions.specs.Faults.{is_homeless, is_whole, are_whole}
 use Rattle.lower.specs.declared.parties.Party.{Party}
-use Rattle.lower.specs.Fetches.{Entry}
-use Rattle.lower.specs.Groups.{IsGroupOf, AreGroupsOf, IsOwnOf, AreOwned, HaveBlocks, line_behind, HaveBodies, grid_over, root_functions, region_of, HasGroupsFrom, Come, AreKnown, IsKeptPlan, all_known, inside_at, rooted_if, rooted, has_region, AreLaid, IsOver, IsOwnOver, AreMade, AreBodies, AreBodiesBy, AreOverRegions, placed_of, AreAlone, IsPlanOf}
+use Rattle.sched.specs.Fetches.{Entry}
+use Rattle.lower.specs.Groups.{IsGroupOf, AreGroupsOf, IsOwnOf, AreOwned, HaveBlocks, line_behind, HaveBodies, root_functions, region_of, HasGroupsFrom, Come, AreKnown, IsKeptPlan}
+use Rattle.lower.specs.Groups.{all_known, inside_at, rooted_if, rooted, has_region, AreLaid, IsOwnOver, AreMade, AreBodies, AreBodiesBy, AreOverRegions, placed_of, AreAlone, IsPlanOf}
+use Rattle.blocks.specs.Groups.{grid_over, IsOver}
 use Rattle.lower.specs.Computed.{AreAllFound}
 use Rattle.lower.specs.Broken.{Inside, first_over}
 use Rattle.lower.specs.Homes.{AreAllAtHome}

@@ -1,5 +1,6 @@
 -- A need line names each piece that owns a point of what is fetched: by the block in which the point's number falls.
-use Rattle.std.proofs.Common.{◌≡◌, ℕ, zero, suc, ◌<◌, Bool, true, false, ◌&&◌, List, [], ◌∷◌, ◌++◌, map, slice_get, Option, Some, None, refl, sym, ap, ◌∙◌, subst, arith, ℤ, pos, negsuc, ◌≤ℤ◌}
+use Rattle.std.proofs.Common.{◌≡◌, ℕ, zero, suc, ◌<◌, Bool, true, false, ◌&&◌, List, [], ◌∷◌, ◌++◌, map, slice_get, Option, Some, None, refl, sym, ap, ◌∙◌, subst, arith, ℤ, pos, negsuc}
+use Rattle.std.proofs.Common.{◌≤ℤ◌}
 use Rattle.std.specs.Prelude.{◌+ℤ◌, ◌-ℤ◌, ◌*ℤ◌, int_le, if◌then◌else◌}
 use Rattle.std.specs.List.{AllByRecursion}
 use Rattle.std.proofs.lemmas.Int.{ints}
@@ -26,15 +27,17 @@ use Rattle.sched.specs.Visits.{IsInGrid}
 use Rattle.sched.proofs.Closing.{IsApart}
 use Rattle.sched.proofs.Rooting.{AreApart}
 use Rattle.sched.proofs.Arranging.{IsGone}
-use Rattle.lower.specs.Blocks.{difference, raised, factor_of}
-use Rattle.lower.specs.Stored.{StoredText}
-use Rattle.lower.specs.Needs.{is_multiple, plus_part, plus_parts, divided, block_at, add_blocks, blocks_over, split_length, length_of, first_count, other_counts, or_all_turns, turns_found, turns_needed, loops_needed, or_one_piece, pieces_needed}
+use Rattle.sched.specs.Blocks.{difference, factor_of}
+use Rattle.blocks.specs.Blocks.{raised}
+use Rattle.sched.specs.Stored.{StoredText}
+use Rattle.regions.specs.Needs.{is_multiple, plus_part, plus_parts, divided, block_at, add_blocks, blocks_over, split_length, length_of, first_count, other_counts, or_all_turns}
+use Rattle.regions.specs.Needs.{turns_found, turns_needed, loops_needed, or_one_piece, pieces_needed}
 use Rattle.lower.specs.Owning.{turn_named, IsTurn, block_of, place_of, EitherBy, Belongs, has_scattered, IsOwned, IsLaidBy, NeedsNameOwners}
 use Rattle.lower.proofs.Dividing.{Falls, falls, falls_only, first_below, below_first, nearest, nearest_of_small}
 use Rattle.lower.proofs.Blocking.{number_value, multiple_value, one_time, IsSmall, CutFits}
 use Rattle.lower.proofs.Directed.{IsLeaf}
-use Rattle.lower.proofs.Laying.{bound}
-use Rattle.lower.proofs.Origins.{combined_is}
+use Rattle.blocks.proofs.Laying.{bound}
+use Rattle.blocks.proofs.Origins.{combined_is}
 use Rattle.lower.proofs.Covering.{in_span, of_span, in_numbers, NumbersAre, AllBelong, all_two, Zipped, zipped}
 use Rattle.lower.proofs.Owners.{arranged, cuts, numbers, small, leaves, head, single, in_grid, belong}
 

@@ -1,38 +1,24 @@
 -- What is told of the uses of functions outside of their loops.
-use Rattle.std.proofs.Common.{◌≡◌, inl, inr, ℕ, zero, suc, ◌+◌, ◌<◌, Bool, true, false, ◌||◌, List, [], ◌∷◌, length, map, take, drop, Option, Some, None, Result, refl, sym, ap, subst, ◌∙◌, arith, add-one}
+-- What crates below need of it stands there: `regions`.
+use Rattle.std.proofs.Common.{◌≡◌, inl, inr, ℕ, zero, suc, ◌+◌, ◌<◌, false, ◌||◌, List, [], ◌∷◌, length, map, take, drop, Option, Some, None, Result, refl, sym, ap, subst, ◌∙◌, arith}
+use Rattle.std.proofs.Common.{add-one}
 use Rattle.std.specs.Prelude.{IfOk, get_or}
 use Rattle.std.specs.List.{list_any}
 use Rattle.std.proofs.Math.Seq.{take-length}
-use Rattle.std.proofs.lemmas.Bool.{false≢true}
 use Rattle.std.proofs.lemmas.Bool.Decides.{not_from_Decides}
 use Rattle.std.proofs.lemmas.Result.{IfOk-weaker}
-use Rattle.sched.specs.declared.schedule.Home.{Home}
 use Rattle.sched.proofs.Deciding.{any_decides}
 use Rattle.sched.specs.declared.region_rule.RegionRule.{RegionRule}
 use Rattle.sched.specs.declared.region_rule.RegionRule.TheVariants as rule
-use Rattle.lower.specs.declared.definitions.Stored.{Stored}
-use Rattle.lower.specs.Stored.{StoredText, stored_of}
-use Rattle.lower.specs.Large.{IsByRegion}
-use Rattle.lower.specs.Faults.{is_homeless}
-use Rattle.lower.specs.Uses.{first_home, passes, uses_outside, is_used_outside, IsUsedOutside, AreUsedInside, TellsOf, IsUseTold, is_use, TellsUse, FindsUse}
-use Rattle.lower.proofs.Insides.{used_decides}
+use Rattle.sched.specs.declared.definitions.Stored.{Stored}
+use Rattle.sched.specs.Stored.{StoredText, stored_of}
+use Rattle.blocks.specs.Large.{IsByRegion}
+use Rattle.regions.specs.Uses.{is_used_outside, IsUsedOutside}
+use Rattle.lower.specs.Uses.{AreUsedInside, TellsOf, IsUseTold, is_use, TellsUse, FindsUse}
+use Rattle.regions.proofs.Insides.{used_decides}
 
 abbrev pub Told : Type 0
 Told = RegionRule × List ℕ
-
--- ---- one function
-
-unused_at : (all : List StoredText) (g : StoredText) (hs : List Home) → is_homeless hs ≡ true → passes (λ v. list_any (uses_outside all g.subject.name v) all) (first_home hs) ≡ false
-unused_at all g [] e = refl
-unused_at all g (h ∷ hs) e = absurd (false≢true e)
-
--- a function that is computed at no loop is not used outside of one
-pub homeless_unused : (all : List StoredText) (g : StoredText) → is_homeless g.placed.homes ≡ true → is_used_outside all g ≡ false
-homeless_unused all g e = unused_at all g g.placed.homes e
-
-pub homeless_told : {E : Type 0} (all : List StoredText) (g : StoredText) (r : Result Bool E)
-    → IfOk r (λ yes. yes ≡ is_used_outside all g) → IfOk r (λ yes. is_homeless g.placed.homes ≡ true → yes ≡ false)
-homeless_told all g r h = IfOk-weaker r (λ yes. yes ≡ is_used_outside all g) (λ yes. is_homeless g.placed.homes ≡ true → yes ≡ false) (λ yes e w. e ∙ homeless_unused all g w) h
 
 no_use_by : (o : Option RegionRule) → IsByRegion o → is_use o ≡ false
 no_use_by None h = refl

@@ -21,14 +21,15 @@ use Rattle.sched.proofs.Numbering.{found_more}
 use Rattle.sched.proofs.Starting.{differ_all, gives_bound, start_arranged}
 use Rattle.sched.proofs.Arranging.{SplitFits, IsArranged}
 use Rattle.sched.proofs.Directing.{directives_keep}
-use Rattle.lower.specs.Stored.{StoredText}
-use Rattle.lower.specs.Regions.{bodies_from}
-use Rattle.lower.specs.Blocks.{part_of, lay_over}
+use Rattle.sched.specs.Stored.{StoredText}
+use Rattle.regions.specs.Regions.{bodies_from}
+use Rattle.blocks.specs.Blocks.{part_of, lay_over}
 use Rattle.lower.specs.Owning.{turn_named, Belongs, has_scattered, IsOwned, IsExtent, IsLaidBy, BlocksMakeUpRegions}
 use Rattle.lower.proofs.Blocking.{PartFits, IsSmall, CutFits, Turns, still, turned, part_fits}
 use Rattle.lower.proofs.Directed.{behind, AreMade, IsLeaf, AreDirected, directives_direct}
 use Rattle.lower.proofs.Grids.{Over, none, some, over_all, parallel_named, HasHead, head_of}
-use Rattle.lower.proofs.Covering.{NumbersAre, AllBelong, all_small, all_inside, all_owned, all_hold, falling, falling_belongs, Ranges, named_all, all_two, falling_ranges, turns_at, or_none, piece_fits, piece_turns, variable_same, names_of, single_filtered, one_piece, or_parts}
+use Rattle.lower.proofs.Covering.{NumbersAre, AllBelong, all_small, all_inside, all_owned, all_hold, falling, falling_belongs, Ranges, named_all, all_two, falling_ranges, turns_at}
+use Rattle.lower.proofs.Covering.{or_none, piece_fits, piece_turns, variable_same, names_of, single_filtered, one_piece, or_parts}
 
 -- ---- numbers
 

@@ -27,14 +27,18 @@ use Rattle.algo.specs.Scoping.Standing.{Written}
 use Rattle.sched.specs.declared.numbers.Extent.{Extent}
 use Rattle.sched.specs.Skeleton.{NestText, SkeletonText}
 use Rattle.sched.specs.Standing.{◌>>=◌}
-use Rattle.lower.specs.declared.regions.Ends.{Ends}
-use Rattle.lower.specs.Called.{called}
-use Rattle.lower.specs.Stored.{FormulaText, StoredText, calls_in, are_calls_of, some_calls}
-use Rattle.lower.specs.Around.{AroundText, interval_in, head_scope, around}
-use Rattle.lower.specs.Regions.{LaidText, ends_between, ends_of, symbols_from, greater, less, number_of, greatest_number, least_number, hull, widen, counts, add_index, add_counted, add_call, add_calls, add_place, add_left, add_definition, add_definitions, add_own, add_all_own, count_of, are_within, extent_between, may_have, extent_of, region_of, same_region, skeleton_of, over, closed, laid_over, add_laid, add_formulas, add_user, add_users, add_extents, add_output, unreached, reach_of, laid_by, laid_within, laid_functions}
-use Rattle.lower.specs.Bounded.{whole}
+use Rattle.regions.specs.declared.regions.Ends.{Ends}
+use Rattle.sched.specs.Called.{called}
+use Rattle.sched.specs.Stored.{FormulaText, StoredText, calls_in, are_calls_of}
+use Rattle.regions.specs.Stored.{some_calls}
+use Rattle.sched.specs.Around.{AroundText, interval_in, head_scope, around}
+use Rattle.sched.specs.Regions.{LaidText, symbols_from, counts, count_of}
+use Rattle.regions.specs.Regions.{ends_between, ends_of, greater, less, number_of, greatest_number, least_number, hull, widen, add_index, add_counted, add_call, add_calls, add_place}
+use Rattle.regions.specs.Regions.{add_left, add_definition, add_definitions, add_own, add_all_own, are_within, extent_between, may_have, extent_of, region_of, same_region, skeleton_of}
+use Rattle.regions.specs.Regions.{over, closed, laid_over, add_laid, add_formulas, add_user, add_users, add_extents, add_output, unreached, reach_of, laid_by, laid_within, laid_functions}
+use Rattle.sched.specs.Bounded.{whole}
 use Rattle.lower.specs.Held.{AreTyped, CallsAt, OutputHoldsExtents, RegionsHoldCalls}
-use Rattle.lower.proofs.Laying.{bound, same}
+use Rattle.blocks.proofs.Laying.{bound, same}
 
 -- ---- what is reached, and what is reached after it
 

@@ -4,17 +4,18 @@ use Rattle.std.specs.Prelude.{if◌then◌else◌}
 use Rattle.std.specs.Option.{option_map}
 use Rattle.std.specs.Global.{Vec}
 use Rattle.std.proofs.lemmas.Bool.{false≢true}
-use Rattle.lower.specs.declared.definitions.Formula.{Formula}
-use Rattle.lower.specs.declared.definitions.Stored.{Stored}
-use Rattle.lower.specs.declared.regions.Laid.{Laid}
-use Rattle.lower.specs.Stored.{FormulaText, formula_of, stored_of}
-use Rattle.lower.specs.Regions.{LaidText, laid_of}
-use Rattle.lower.specs.Fetches.{Entry}
-use Rattle.lower.specs.declared.fetching.Root.{Root}
-use Rattle.lower.specs.declared.inner.Inner.{Inner}
+use Rattle.sched.specs.declared.definitions.Formula.{Formula}
+use Rattle.sched.specs.declared.definitions.Stored.{Stored}
+use Rattle.sched.specs.declared.roots.Laid.{Laid}
+use Rattle.sched.specs.Stored.{FormulaText, formula_of, stored_of}
+use Rattle.sched.specs.Regions.{LaidText, laid_of}
+use Rattle.sched.specs.Fetches.{Entry}
+use Rattle.sched.specs.declared.roots.Root.{Root}
+use Rattle.sched.specs.declared.hosts.Inner.{Inner}
 use Rattle.lower.specs.declared.parties.Party.{Party}
-use Rattle.lower.specs.Groups.{root_of, HasNone, IsAlone, is_same, rooted_by, has_region}
-use Rattle.lower.proofs.First.{formulas_at, no_formulas}
+use Rattle.sched.specs.Groups.{root_of}
+use Rattle.lower.specs.Groups.{HasNone, IsAlone, is_same, rooted_by, has_region}
+use Rattle.blocks.proofs.First.{formulas_at, no_formulas}
 
 -- ---- as a function's own definitions and region are found
 

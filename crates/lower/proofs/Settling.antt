@@ -1,5 +1,6 @@
 -- Wherever a nest comes whose loops are split, guarded positions are at most last numbers.
-use Rattle.std.proofs.Common.{◌≡◌, ◌≢◌, ◌≤◌, ◌<◌, ◌+◌, ◌-◌, ◌==◌, ℕ, suc, Bool, true, false, ◌&&◌, ◌||◌, List, [], ◌∷◌, ◌++◌, length, map, Option, Some, None, refl, sym, ap, subst, ◌∙◌, inl, inr, arith}
+use Rattle.std.proofs.Common.{◌≡◌, ◌≢◌, ◌≤◌, ◌<◌, ◌+◌, ◌==◌, ℕ, suc, Bool, true, false, ◌&&◌, ◌||◌, List, [], ◌∷◌, ◌++◌, length, map, Option, Some, None, refl, sym, ap, subst, ◌∙◌}
+use Rattle.std.proofs.Common.{inl, inr, arith}
 use Rattle.std.specs.Prelude.{ℤ, pos, negsuc, ◌+ℤ◌, ◌-ℤ◌, ◌*ℤ◌, ◌≤ℤ◌, ◌⊎◌, int_lt, int_le, cond, find, if◌then◌else◌, nat_lt}
 use Rattle.std.specs.List.{AllByRecursion, list_any}
 use Rattle.std.specs.Int.{int_min, int_max}
@@ -28,13 +29,15 @@ use Rattle.sched.specs.Visits.{picked}
 use Rattle.sched.proofs.Leading.{Leads, arrived, leads_apart}
 use Rattle.sched.proofs.Standings.{found_all, found_more}
 use Rattle.sched.proofs.Told.{Keeps, kept_value, bind_here, bind_keeps, told_alone}
-use Rattle.lower.specs.declared.ends.Reach.{Reach}
-use Rattle.lower.specs.declared.standing.Run.{Run}
-use Rattle.lower.specs.Parted.{begun}
-use Rattle.lower.specs.Settled.{picks, tests, tests_if, limited, is_known, is_asked, begin_at, begin_over, begin, keep_by_let, keep_by_guard, keep_by, told_form, put_together, join_over, join, is_guarded, reach_named, enter, is_lanes, settle_by, settle_one, settle, turn, turn_all}
+use Rattle.sched.specs.declared.ends.Reach.{Reach}
+use Rattle.sched.specs.declared.ends.Run.{Run}
+use Rattle.sched.specs.Parted.{begun}
+use Rattle.sched.specs.Settled.{picks, tests, tests_if, limited, is_known, is_asked, begin_at, begin_over, begin, keep_by_let, keep_by_guard, keep_by, told_form, put_together, join_over}
+use Rattle.sched.specs.Settled.{join, is_guarded, reach_named, enter, is_lanes, settle_by, settle_one, settle, turn, turn_all}
 use Rattle.lower.specs.Visited.{HasEnd, AreEnded, AreLets, AreGuarded, GuardedPositionsAreKept}
-use Rattle.lower.proofs.Guards.{last_is, less_all, Rises, are_rising, rises_limited, rises_more, is_loop, good_more, good_value, one_times, minus_one, limit_is, limited_back, limited_says, ended_limited, ended_more}
-use Rattle.lower.proofs.Laying.{bound, same}
+use Rattle.lower.proofs.Guards.{last_is, less_all, Rises, are_rising, rises_limited, rises_more, is_loop, good_more, good_value, one_times, minus_one, limit_is, limited_back}
+use Rattle.lower.proofs.Guards.{limited_says, ended_limited, ended_more}
+use Rattle.blocks.proofs.Laying.{bound, same}
 
 -- ---- forms
 

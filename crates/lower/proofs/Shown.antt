@@ -20,15 +20,18 @@ use Rattle.sched.specs.declared.region_rule.RegionRule.{RegionRule}
 use Rattle.sched.specs.declared.region_rule.RegionRule.TheVariants.{ShortShift, TooMuch, Unbounded}
 use Rattle.sched.specs.Skeleton.{NestText}
 use Rattle.sched.specs.Standing.{◌>>=◌}
-use Rattle.lower.specs.declared.legality.Totals.{Totals}
-use Rattle.lower.specs.Called.{called}
-use Rattle.lower.specs.Stored.{FormulaText, StoredText, calls_in, has_large}
-use Rattle.lower.specs.Around.{AroundText, interval_in, head_scope}
-use Rattle.lower.specs.Regions.{LaidText, counts, laid_functions}
-use Rattle.lower.specs.Bounded.{whole, is_on_input, is_place_bounded, is_in_region, is_call_bounded, are_bounded, is_definition_bounded, is_bounded, is_root_bounded}
-use Rattle.lower.specs.Faults.{no_totals, with_laid, pass_limits, is_shifted_little, unless_bounded, fault_within, fault_by, fault_of, totals_with, or_later, fault_from, calls_of_large, region_fault}
+use Rattle.blocks.specs.declared.legality.Totals.{Totals}
+use Rattle.sched.specs.Called.{called}
+use Rattle.sched.specs.Stored.{FormulaText, StoredText, calls_in}
+use Rattle.sched.specs.Around.{AroundText, interval_in, head_scope}
+use Rattle.sched.specs.Regions.{LaidText, counts}
+use Rattle.regions.specs.Regions.{laid_functions}
+use Rattle.sched.specs.Bounded.{whole}
+use Rattle.blocks.specs.Bounded.{is_on_input, is_place_bounded, is_in_region, is_call_bounded, are_bounded, is_definition_bounded, is_bounded, is_root_bounded}
+use Rattle.lower.specs.Faults.{no_totals, fault_by, fault_of, or_later, fault_from, calls_of_large, region_fault}
+use Rattle.blocks.specs.Faults.{with_laid, pass_limits, is_shifted_little, unless_bounded, fault_within, totals_with}
 use Rattle.lower.specs.Held.{AreTyped, CallsAt, InputHoldsCalls, IsLaid, RegionsHoldOwnCalls}
-use Rattle.lower.proofs.Laying.{bound, same}
+use Rattle.blocks.proofs.Laying.{bound, same}
 
 -- ---- a fault that is not there
 

@@ -1,30 +1,19 @@
 -- The first function of which a rule is told, as far as it goes by the sizes of definitions.
-use Rattle.std.proofs.Common.{◌≡◌, ℕ, zero, suc, ◌+◌, Bool, true, false, List, [], ◌∷◌, length, take, Option, Some, None, Result, inl, inr, refl, ap, subst, add-one}
-use Rattle.std.specs.Prelude.{IfOk, map}
-use Rattle.std.specs.Option.{option_map}
-use Rattle.std.specs.Global.{Vec}
+-- What crates below need of it stands there: `regions`.
+use Rattle.std.proofs.Common.{◌≡◌, ℕ, zero, suc, ◌+◌, false, List, [], ◌∷◌, length, take, Option, Some, None, Result, inl, inr, refl, subst, add-one}
+use Rattle.std.specs.Prelude.{IfOk}
 use Rattle.std.proofs.Math.Seq.{take-length}
 use Rattle.std.proofs.lemmas.Result.{IfOk-weaker}
 use Rattle.sched.specs.declared.region_rule.RegionRule.{RegionRule}
 use Rattle.sched.specs.declared.region_rule.RegionRule.TheVariants as rule
-use Rattle.lower.specs.declared.definitions.Formula.{Formula}
-use Rattle.lower.specs.declared.definitions.Stored.{Stored}
-use Rattle.lower.specs.Stored.{StoredText, is_large, has_large, formula_of, stored_of}
-use Rattle.lower.specs.Large.{Breaks, IsTold, IsFault, IsByRegion, Finds}
+use Rattle.sched.specs.Stored.{StoredText}
+use Rattle.regions.specs.Stored.{is_large}
+use Rattle.lower.specs.Stored.{has_large}
+use Rattle.lower.specs.Large.{Breaks, IsTold, IsFault, Finds}
+use Rattle.blocks.specs.Large.{IsByRegion}
 
 abbrev pub Told : Type 0
 Told = RegionRule × List ℕ
-
--- ---- one function
-
-abbrev large_with : Stored → Option (Vec Formula) → Bool
-large_with s o = is_large (record (stored_of s) { formulas = option_map (λ v. map formula_of v.items) o })
-
-pub small_at : (s : Stored) (v : Vec Formula) → s.formulas ≡ Some v → is_large (stored_of s) ≡ false
-small_at s v e = ap (large_with s) e
-
-pub large_at : (s : Stored) → s.formulas ≡ None → is_large (stored_of s) ≡ true
-large_at s e = ap (large_with s) e
 
 -- a function whose definitions are within the limits breaks none but a rule that asks for a region
 pub fault_small : (g : StoredText) (o : Option RegionRule) → is_large g ≡ false → IsByRegion o → IsFault g o

@@ -18,15 +18,18 @@ use Rattle.lower.specs.declared.error.LowerError.TheVariants as error
 use Rattle.sched.specs.declared.region_rule.RegionRule.{RegionRule}
 use Rattle.sched.specs.declared.region_rule.RegionRule.TheVariants as rule
 use Rattle.lower.specs.declared.lowering.Lowered.{Lowered}
-use Rattle.lower.specs.Stored.{StoredText, has_large, stored_functions}
+use Rattle.sched.specs.Stored.{StoredText}
+use Rattle.lower.specs.Stored.{has_large, stored_functions}
 use Rattle.lower.specs.Large.{Finds, IsTold, IsToldOf}
-use Rattle.lower.specs.Regions.{LaidText, laid_functions}
+use Rattle.sched.specs.Regions.{LaidText}
+use Rattle.regions.specs.Regions.{laid_functions}
 use Rattle.lower.specs.declared.parties.Party.{Party}
 use Rattle.lower.specs.Broken.{Inside, calls_left, first_from, first_over, asked_count, unless_behind, first_told}
-use Rattle.lower.specs.Faults.{are_whole, no_totals, region_fault}
+use Rattle.regions.specs.Faults.{are_whole}
+use Rattle.lower.specs.Faults.{no_totals, region_fault}
 use Rattle.lower.specs.Uses.{AreUsedInside, FindsUse, TellsUse}
-use Rattle.lower.specs.declared.inner.Inner.{Inner}
-use Rattle.lower.specs.Placed.{inner_seen}
+use Rattle.sched.specs.declared.hosts.Inner.{Inner}
+use Rattle.sched.specs.Placed.{inner_seen}
 use Rattle.lower.specs.Groups.{rounds, AreAlone, AreGroupsMade, HasNone, IsPlanOf, IsKeptPlan, inside_at, inside_of, party_of, rooted}
 use Rattle.lower.specs.Planned.{TellsOf, none_inside, unplanned, unplanned_over}
 use Rattle.lower.specs.Refused.{Answers, AnswersBy, AreSmall, IsFirstOver, IsNoneFrom, IsNoneOver, AreRegionsKept, AreUsesInside, IsRefused, subjects_of}

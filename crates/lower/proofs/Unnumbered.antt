@@ -12,15 +12,21 @@ use Rattle.sched.specs.declared.skeleton.Step.{Step}
 use Rattle.sched.specs.declared.skeleton.Step.TheVariants.{Named}
 use Rattle.sched.specs.Skeleton.{NestText, SkeletonText}
 use Rattle.sched.specs.Standing.{◌>>=◌}
-use Rattle.lower.specs.declared.spots.Host.{Host}
-use Rattle.lower.specs.declared.spots.Host.TheVariants.{Inner as Inside, Later as Anew}
-use Rattle.lower.specs.declared.spots.Spot.{Spot}
-use Rattle.lower.specs.Stored.{FormulaText, StoredText}
-use Rattle.lower.specs.Loading.{Loads, as_load}
-use Rattle.lower.specs.Around.{names_with}
-use Rattle.lower.specs.Bodies.{first_left, other_lefts, own_lines}
-use Rattle.lower.specs.Renamed.{Pairs, last_value, value_in, places_renamed, region_renamed, span_renamed, step_renamed, coordinates_renamed}
-use Rattle.lower.specs.Placed.{LaterText, PlacedText, OwnerText, SoFar, Made, both, with_lines, with_symbol, with_name, with_loads, bound_by, around, index_by, coordinates_by, store_by, store_in, stored, with_claim, claimed, seated, same_spot, buffer_at, buffers_at, Nests, own_buffer, function_at, functions_at, numbers_down, all_at, spot, step_in, walk, walk_apart, nests_from, lets, owner, all_turns, held, arm, arms, first_lets, first_and_later, sliding_turns, turns, computed, let_count, fold_of, over_grid, names_over, nests_over_grid}
+use Rattle.sched.specs.declared.hosts.Host.{Host}
+use Rattle.sched.specs.declared.hosts.Host.TheVariants.{Inner as Inside, Later as Anew}
+use Rattle.sched.specs.declared.hosts.Spot.{Spot}
+use Rattle.sched.specs.Stored.{FormulaText, StoredText}
+use Rattle.sched.specs.Loading.{Loads, as_load}
+use Rattle.sched.specs.Around.{names_with}
+use Rattle.sched.specs.Bodies.{first_left, other_lefts}
+use Rattle.blocks.specs.Bodies.{own_lines}
+use Rattle.sched.specs.Renamed.{Pairs, last_value, value_in, region_renamed, span_renamed, step_renamed, coordinates_renamed}
+use Rattle.blocks.specs.Renamed.{places_renamed}
+use Rattle.sched.specs.Placed.{LaterText, PlacedText, OwnerText, SoFar, Made, with_lines, with_symbol, with_name, bound_by, around, index_by, coordinates_by, store_by, store_in, stored}
+use Rattle.sched.specs.Placed.{with_claim, claimed, spot, lets}
+use Rattle.blocks.specs.Placed.{both, with_loads, seated, same_spot, buffer_at, buffers_at, Nests, own_buffer, function_at, functions_at, numbers_down, all_at, step_in, walk, walk_apart}
+use Rattle.blocks.specs.Placed.{nests_from, owner, all_turns, held, arm, arms, first_lets, first_and_later, sliding_turns, turns, computed, let_count, fold_of, over_grid, names_over}
+use Rattle.blocks.specs.Placed.{nests_over_grid}
 
 -- ---- both or neither
 

@@ -10,23 +10,29 @@ use Rattle.meaning.specs.Algorithm.{Algorithm}
 use Rattle.meaning.specs.Names.{same_name}
 use Rattle.sched.specs.declared.schedule.Home.{Home}
 use Rattle.sched.specs.Skeleton.{NestText}
-use Rattle.lower.specs.declared.inner.Inner.{Inner}
-use Rattle.lower.specs.declared.spots.Host.{Host}
-use Rattle.lower.specs.declared.spots.Spot.{Spot}
-use Rattle.lower.specs.Stored.{StoredText}
-use Rattle.lower.specs.Around.{bind_steps}
-use Rattle.lower.specs.Taken.{SiteText}
-use Rattle.lower.specs.Fetches.{Entry}
-use Rattle.lower.specs.Uses.{first_home}
-use Rattle.lower.specs.Placed.{LaterText, PlacedText, fold_of, inner_seen}
-use Rattle.lower.specs.Seats.{add_places, folded}
-use Rattle.lower.specs.Homes.{HostText, host_at, hosts_named, is_over_grid, spot_in, store_spot, put_before}
-use Rattle.lower.specs.Demanded.{scope_at, sites_at}
+use Rattle.sched.specs.declared.hosts.Inner.{Inner}
+use Rattle.sched.specs.declared.hosts.Host.{Host}
+use Rattle.sched.specs.declared.hosts.Spot.{Spot}
+use Rattle.sched.specs.Stored.{StoredText}
+use Rattle.sched.specs.Around.{bind_steps}
+use Rattle.sched.specs.Taken.{SiteText}
+use Rattle.sched.specs.Fetches.{Entry}
+use Rattle.regions.specs.Uses.{first_home}
+use Rattle.sched.specs.Placed.{LaterText, PlacedText, inner_seen}
+use Rattle.blocks.specs.Placed.{fold_of}
+use Rattle.blocks.specs.Seats.{add_places}
+use Rattle.regions.specs.Seats.{folded}
+use Rattle.regions.specs.Homes.{HostText, host_at, hosts_named, is_over_grid, spot_in, store_spot}
+use Rattle.lower.specs.Homes.{put_before}
+use Rattle.regions.specs.Demanded.{scope_at, sites_at}
 use Rattle.lower.specs.Guarded.{needed_at}
-use Rattle.lower.specs.Parted.{kept_region}
-use Rattle.lower.specs.Rounded.{LainText, lain_kept, lain_over, claim_of}
-use Rattle.lower.specs.Broken.{Inside, is_small}
-use Rattle.lower.specs.Slid.{TrackText, dimension_along, folds_fit, sliding_at, turns_of, Holds}
+use Rattle.blocks.specs.Parted.{kept_region}
+use Rattle.lower.specs.Rounded.{LainText, lain_kept, lain_over}
+use Rattle.blocks.specs.Rounded.{claim_of}
+use Rattle.lower.specs.Broken.{Inside}
+use Rattle.regions.specs.Broken.{is_small}
+use Rattle.regions.specs.Slid.{TrackText, folds_fit}
+use Rattle.lower.specs.Slid.{dimension_along, sliding_at, turns_of, Holds}
 
 -- ---- the places of a function's loop
 

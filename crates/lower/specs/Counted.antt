@@ -8,8 +8,9 @@ use Rattle.plan.specs.Plan.{Statement}
 use Rattle.plan.specs.Lines.{lines}
 use Rattle.sched.specs.declared.skeleton.Step.{Step}
 use Rattle.sched.specs.declared.skeleton.Step.TheVariants.{Named}
-use Rattle.lower.specs.Fetches.{Entry}
-use Rattle.lower.specs.Placed.{PlacedText, IsMixedBody}
+use Rattle.sched.specs.Fetches.{Entry}
+use Rattle.sched.specs.Placed.{PlacedText}
+use Rattle.lower.specs.Placed.{IsMixedBody}
 
 abbrev pub IsLet : Step → Type 0
 IsLet (Named i pick forms) = Unit {0}

@@ -1,32 +1,22 @@
 -- What a piece fetches of other root functions, and what the certificate says of it: which pieces are needed, and by which claims it is loaded.
-use Rattle.std.specs.Prelude.{◌≡◌, ℕ, ◌+◌, ◌-◌, ◌==◌, ℤ, Bool, not, ◌&&◌, if◌then◌else◌, List, [], ◌∷◌, length, Option, Some, string_bytes}
+-- What crates below need of it stands there: `sched`, `blocks`.
+use Rattle.std.specs.Prelude.{◌≡◌, ℕ, ◌+◌, ◌==◌, ℤ, Bool, not, ◌&&◌, if◌then◌else◌, List, [], ◌∷◌, Option, Some}
 use Rattle.lin.specs.declared.span.Span1.{Span1}
 use Rattle.lin.specs.Spans.{IsInSpan}
 use Rattle.plan.specs.declared.stmt.Places.{Places}
 use Rattle.plan.specs.declared.certificate.cert.Claim.{Claim}
 use Rattle.plan.specs.declared.certificate.cert.Need.{Need}
-use Rattle.plan.specs.Plan.{Statement, Alloc, Fetch}
 use Rattle.sched.specs.declared.numbers.Extent.{Extent}
-use Rattle.lower.specs.Stored.{FormulaText, StoredText, some_calls}
-use Rattle.lower.specs.Regions.{LaidText}
-use Rattle.lower.specs.Bounded.{whole}
-use Rattle.lower.specs.Loading.{Loads}
-use Rattle.lower.specs.Needs.{pieces_needed}
-use Rattle.lower.specs.Taken.{SiteText, taken_region, taken_places}
+use Rattle.sched.specs.Stored.{FormulaText}
+use Rattle.regions.specs.Stored.{some_calls}
+use Rattle.sched.specs.Bounded.{whole}
+use Rattle.sched.specs.Loading.{Loads}
+use Rattle.regions.specs.Needs.{pieces_needed}
+use Rattle.sched.specs.Taken.{SiteText}
+use Rattle.regions.specs.Taken.{taken_region, taken_places}
 use Rattle.lin.specs.declared.scope.Binding.{Binding}
-use Rattle.lower.specs.declared.whole.Fetch.{Fetch as CodeFetch}
-
--- a root function, its region with the loops over it, and its definitions
-abbrev pub Entry : Type 0
-Entry = StoredText × LaidText × List FormulaText
-
--- a buffer for points of another function, its places, and the region that is fetched into it of that function's group
-pub record FetchText : Type 0 where
-  pub buffer : ℕ
-  pub function : List ℕ
-  pub places : List Places
-  pub group : ℕ
-  pub region : List Span1
+use Rattle.sched.specs.Fetches.{Entry}
+use Rattle.blocks.specs.Fetches.{FetchText, Claims, last_number}
 
 -- ---- of which functions
 
@@ -73,20 +63,6 @@ pub record IsPart (calls : Calls) (grid : List Binding) (e : Entry) (f : FetchTe
   pub taken : IsTaken calls grid e.0.subject.name e.1.region f.region f.places
   pub inside : LieIn f.region e.1.region
 
--- ---- what the certificate says
-
--- from after the statement that ends at this line on, it claims that this buffer has this definition of this function at every point of this region
-pub record Claims (line b : ℕ) (x : List ℕ) (d : ℕ) (region : List Span1) (claim : Claim) : Type 0 where
-  pub after : claim.line ≡ line
-  pub buffered : claim.buffer ≡ b
-  pub named : string_bytes claim.function ≡ x
-  pub defined : claim.definition ≡ d
-  pub over : claim.region ≡ region
-
--- the number of the last of some definitions, the pure one of which is 0
-abbrev pub last_number : List FormulaText → ℕ
-last_number fs = length fs - 1
-
 -- pieces of n fetch this of the group h: points of its function, of which they need the pieces that own them, and which are then claimed, as its last definition
 -- leaves them; the buffer's line is this one, and the next has the fetch
 pub record IsFetched (n b line h : ℕ) (e : Entry) (f : FetchText) (need : Need) (claim : Claim) : Type 0 where
@@ -104,22 +80,7 @@ AreFetched s t n b line [] [] [] [] = Unit {0}
 AreFetched s t n b line (x ∷ xs) (f ∷ fs) (w ∷ ws) (c ∷ cs) = IsFetched n b line x.0 x.1 f w c × IsPart s t x.1 f × AreFetched s t n (b + 1) (line + 2) xs fs ws cs
 AreFetched s t n b line _ _ _ _ = ⊥
 
--- ---- what the piece does
-
--- the buffer, and what is fetched into it, before others
-abbrev pub with_fetch : FetchText → List Statement → List Statement
-with_fetch f xs = Alloc f.buffer f.function f.places ∷ (Fetch f.buffer f.group f.region ∷ xs)
-
-abbrev pub with_fetches : List FetchText → List Statement → List Statement
-with_fetches [] xs = xs
-with_fetches (f ∷ fs) xs = with_fetch f (with_fetches fs xs)
-
 -- each is loaded by its claim, where the first of them has this number
 abbrev pub loads_from : ℕ → List FetchText → Loads
 loads_from c [] = []
 loads_from c (f ∷ fs) = (f.function, c) ∷ loads_from (c + 1) fs
-
--- ---- as memory keeps it
-
-abbrev pub fetch_seen : CodeFetch → FetchText
-fetch_seen f = record { buffer = f.buffer; function = f.function.now; places = f.places.items; group = f.group; region = f.region }

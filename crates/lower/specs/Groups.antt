@@ -1,6 +1,8 @@
 -- The groups of a plan: one for each stored root function, in the order of declaration, over its region, with a piece for each turn of
 -- its parallel loops.
-use Rattle.std.specs.Prelude.{◌≡◌, ◌⊎◌, ℕ, zero, suc, ◌+◌, Bool, true, false, not, ◌&&◌, if◌then◌else◌, List, [], ◌∷◌, ◌++◌, length, map, Option, Some, None, Result, Ok, Err, string_bytes}
+-- What crates below need of it stands there: `sched`, `blocks`.
+use Rattle.std.specs.Prelude.{◌≡◌, ◌⊎◌, ℕ, zero, suc, ◌+◌, Bool, true, false, not, ◌&&◌, if◌then◌else◌, List, [], ◌∷◌, ◌++◌, length, map, Option, Some, None, Result, Ok, Err}
+use Rattle.std.specs.Prelude.{string_bytes}
 use Rattle.std.specs.List.{list_any}
 use Rattle.std.specs.Option.{option_map}
 use Rattle.std.specs.Global.{Vec}
@@ -18,33 +20,30 @@ use Rattle.plan.specs.Lines.{lines}
 use Rattle.meaning.specs.Algorithm.{Algorithm}
 use Rattle.sched.specs.Schedule.{Schedule}
 use Rattle.sched.specs.declared.numbers.Extent.{Extent}
-use Rattle.sched.specs.Numbers.{loop_numbers, piece_counts}
 use Rattle.sched.specs.Skeleton.{SkeletonText}
-use Rattle.lower.specs.declared.fetching.Root.{Root}
 use Rattle.lower.specs.declared.lowering.Lowered.{Lowered}
-use Rattle.lower.specs.declared.inner.Inner.{Inner}
+use Rattle.sched.specs.declared.hosts.Inner.{Inner}
 use Rattle.lower.specs.declared.parties.Party.{Party}
-use Rattle.lower.specs.declared.regions.Laid.{Laid}
-use Rattle.lower.specs.Stored.{FormulaText, StoredText, formula_of, stored_of, stored_functions}
-use Rattle.lower.specs.Regions.{LaidText, laid_of, laid_functions, skeleton_of}
-use Rattle.lower.specs.Fetches.{Entry}
+use Rattle.sched.specs.declared.roots.Laid.{Laid}
+use Rattle.sched.specs.Stored.{FormulaText, StoredText}
+use Rattle.lower.specs.Stored.{stored_functions}
+use Rattle.sched.specs.Regions.{LaidText, laid_of}
+use Rattle.regions.specs.Regions.{laid_functions, skeleton_of}
+use Rattle.sched.specs.Fetches.{Entry}
 use Rattle.lower.specs.Asked.{laid_each, unless_same, unless}
 use Rattle.lower.specs.Broken.{Inside, first_over}
-use Rattle.lower.specs.Blocks.{dimensions_of, owned_region}
+use Rattle.blocks.specs.Blocks.{dimensions_of, owned_region}
 use Rattle.lower.specs.Bodies.{IsBody}
 use Rattle.lower.specs.Computed.{AreAllFound, AreFoundIf, AreFoundIn}
 use Rattle.lower.specs.Homes.{AreAllAtHome}
-use Rattle.lower.specs.Placed.{PlacedText, IsMixedBody, inner_seen}
-use Rattle.lower.specs.Around.{grid_scope}
+use Rattle.sched.specs.Placed.{PlacedText, inner_seen}
+use Rattle.lower.specs.Placed.{IsMixedBody}
+use Rattle.sched.specs.Around.{grid_scope}
 use Rattle.lower.specs.Heads.{IsHeadOf}
-use Rattle.lower.specs.Bounded.{whole}
-use Rattle.lower.specs.Faults.{are_whole}
-
--- ---- a group
-
--- how many turns each of a function's parallel loops has over a region, the innermost first; one piece where no loop is parallel
-abbrev pub grid_over : StoredText → List Extent → List ℕ
-grid_over g region = piece_counts (loop_numbers g.subject.variables g.placed.cuts region) g.placed.loops
+use Rattle.sched.specs.Bounded.{whole}
+use Rattle.regions.specs.Faults.{are_whole}
+use Rattle.blocks.specs.Groups.{grid_over, IsOver}
+use Rattle.sched.specs.Groups.{root_of}
 
 -- the group of a function: its name, the numbers of its region, and as many pieces as its parallel loops have turns over that
 pub record IsGroupOf (g : StoredText) (p : Group) : Type 0 where
@@ -155,14 +154,6 @@ rooted is [] ls = []
 -- the root functions over the regions that are needed
 abbrev pub roots_over : Algorithm → List StoredText → List Entry
 roots_over a gs = rooted true gs (laid_functions a gs)
-
--- ---- over some regions
-
--- the group of a function over this region
-pub record IsOver (e : Entry) (p : Group) : Type 0 where
-  pub named : string_bytes p.function ≡ e.0.subject.name
-  pub region : p.region ≡ map whole e.1.region
-  pub grid : p.grid.items ≡ grid_over e.0 e.1.region
 
 pub record IsOwnOver (e : Entry) (n : ℕ) (o : Own) : Type 0 where
   pub numbered : o.group ≡ n
@@ -331,12 +322,6 @@ HasGroups a gs l = HasGroupsFrom a gs (rounds gs) (laid_functions a gs) l
 
 abbrev pub AreGroupsMade : Algorithm → Schedule → Lowered → Type 0
 AreGroupsMade a s l = HasGroups a (stored_functions a s) l
-
--- ---- while they are made
-
--- as memory keeps a stored function that has definitions and a region
-abbrev pub root_of : Root → Entry
-root_of r = (stored_of r.stored.now, laid_of r.laid.now, map formula_of r.formulas.now)
 
 abbrev pub party_of : Party → Entry
 party_of p = root_of p.root

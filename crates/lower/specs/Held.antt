@@ -22,14 +22,16 @@ use Rattle.algo.specs.Scoping.Standing.{Written}
 use Rattle.sched.specs.declared.numbers.Extent.{Extent}
 use Rattle.sched.specs.Skeleton.{NestText, SkeletonText}
 use Rattle.sched.specs.Visits.{IsInGrid, arrivals}
-use Rattle.lower.specs.Called.{called}
-use Rattle.lower.specs.Stored.{FormulaText, StoredText, calls_in}
-use Rattle.lower.specs.Around.{AroundText, around, bind_steps, grid_scope, head_scope}
-use Rattle.lower.specs.Regions.{LaidText, counts, laid_functions, skeleton_of}
-use Rattle.lower.specs.Bounded.{whole}
+use Rattle.sched.specs.Called.{called}
+use Rattle.sched.specs.Stored.{FormulaText, StoredText, calls_in}
+use Rattle.sched.specs.Around.{AroundText, around, bind_steps, grid_scope, head_scope}
+use Rattle.sched.specs.Regions.{LaidText, counts}
+use Rattle.regions.specs.Regions.{laid_functions, skeleton_of}
+use Rattle.sched.specs.Bounded.{whole}
 use Rattle.lower.specs.Faults.{region_fault}
-use Rattle.lower.specs.Taken.{SiteText, sites_of, taken_places, taken_region}
-use Rattle.lower.specs.Demanded.{needed_region}
+use Rattle.sched.specs.Taken.{SiteText}
+use Rattle.regions.specs.Taken.{sites_of, taken_places, taken_region}
+use Rattle.regions.specs.Demanded.{needed_region}
 
 -- each index has a type, where these are the variables, and these the types of what is called
 abbrev pub AreTyped : (List ℕ → Bool) → (List ℕ → Option (Ty × ℕ)) → Terms → Type 0

@@ -1,8 +1,11 @@
 -- Which rule is told of which stored function, as far as it goes by the sizes of its definitions.
+-- What crates below need of it stands there: `blocks`.
 use Rattle.std.specs.Prelude.{◌≡◌, ◌⊎◌, ℕ, true, false, List, [], ◌∷◌, take, Option, Some, None}
 use Rattle.sched.specs.declared.region_rule.RegionRule.{RegionRule}
 use Rattle.sched.specs.declared.region_rule.RegionRule.TheVariants as rule
-use Rattle.lower.specs.Stored.{StoredText, is_large, has_large}
+use Rattle.sched.specs.Stored.{StoredText}
+use Rattle.regions.specs.Stored.{is_large}
+use Rattle.lower.specs.Stored.{has_large}
 use Rattle.lower.specs.Uses.{AreUsedInside, IsUseTold}
 
 -- L11 for a definition only where one passes the limits, L8, L9, L11 for cells or pieces and L12 only where none does; L6, which comes first,
@@ -24,16 +27,6 @@ IsTold (g ∷ gs) r x = (Breaks g r × (g.subject.name ≡ x)) ⊎ ((is_large g 
 abbrev pub IsFault : StoredText → Option RegionRule → Type 0
 IsFault g None = is_large g ≡ false
 IsFault g (Some r) = Breaks g r
-
--- a rule that asks for a region
-abbrev pub IsByRegion : Option RegionRule → Type 0
-IsByRegion None = Unit {0}
-IsByRegion (Some rule.OutsideUse) = ⊥
-IsByRegion (Some rule.TooLarge) = ⊥
-IsByRegion (Some rule.ShortShift) = Unit {0}
-IsByRegion (Some rule.SmallFold) = Unit {0}
-IsByRegion (Some rule.TooMuch) = Unit {0}
-IsByRegion (Some rule.Unbounded) = Unit {0}
 
 -- of so many functions none has a definition that passes the limits, or one of the functions is told
 abbrev pub Finds : List StoredText → ℕ → Option (RegionRule × List ℕ) → Type 0

@@ -1,27 +1,21 @@
 -- What is known of a piece's body while it is made.
+-- What crates below need of it stands there: `blocks`.
 use Rattle.std.specs.Prelude.{◌≡◌, ℕ, ◌+◌, ◌*◌, Bool, true, false, List, [], ◌∷◌, ◌++◌, length, map, Option, Some, None}
-use Rattle.lin.specs.declared.span.Span1.{Span1}
 use Rattle.plan.specs.declared.certificate.cert.Claim.{Claim}
 use Rattle.plan.specs.declared.certificate.cert.Need.{Need}
 use Rattle.plan.specs.declared.plan.Group.{Group}
 use Rattle.plan.specs.View.{statement_of}
-use Rattle.plan.specs.Plan.{Statement, block}
-use Rattle.plan.specs.Lines.{lines, block_lines}
-use Rattle.sched.specs.Skeleton.{NestText}
-use Rattle.lower.specs.declared.group.Body.{Body}
-use Rattle.lower.specs.Stored.{FormulaText, StoredText}
-use Rattle.lower.specs.Loading.{load_of}
+use Rattle.plan.specs.Plan.{Statement}
+use Rattle.plan.specs.Lines.{lines}
+use Rattle.blocks.specs.declared.group.Body.{Body}
+use Rattle.blocks.specs.Loading.{load_of}
 use Rattle.meaning.specs.Algorithm.{Algorithm}
 use Rattle.lin.specs.declared.scope.Binding.{Binding}
-use Rattle.lower.specs.Fetches.{Entry, FetchText, Calls, IsTaken, Claims, IsFetched, AreFetched, loads_from}
-use Rattle.lower.specs.Blocks.{dimensions_of}
-use Rattle.lower.specs.Bodies.{AreNests, IsBody}
-
--- one more claim, of this definition of this function in this buffer
-pub record AddsClaim (line b : ℕ) (x : List ℕ) (d : ℕ) (region : List Span1) (old new : List Claim) : Type 0 where
-  pub claim : Claim
-  pub claims : Claims line b x d region claim
-  pub added : new ≡ old ++ claim ∷ []
+use Rattle.sched.specs.Fetches.{Entry}
+use Rattle.blocks.specs.Fetches.{FetchText}
+use Rattle.lower.specs.Fetches.{Calls, IsTaken, IsFetched, AreFetched, loads_from}
+use Rattle.blocks.specs.Blocks.{dimensions_of}
+use Rattle.lower.specs.Bodies.{IsBody}
 
 -- nothing is claimed, needed, held or loaded; the next claim and the next line have these numbers, and the next buffer is 1
 pub record IsBegun (c line : ℕ) (b : Body) : Type 0 where
@@ -51,10 +45,6 @@ abbrev pub MayMake : Calls → List Binding → ℕ → Bool → ℕ → Entry �
 MayMake s t n called h e None old new = (called ≡ false) × (new ≡ old)
 MayMake s t n called h e (Some f) old new = (called ≡ true) × FetchMade n h e f old new × IsTaken s t e.0.subject.name e.1.region f.region f.places
 
-abbrev pub with_first : Option FetchText → List FetchText → List FetchText
-with_first None fs = fs
-with_first (Some f) fs = f ∷ fs
-
 -- these are fetched of these groups
 pub record FetchesMade (s : Calls) (t : List Binding) (n : ℕ) (xs : List (ℕ × Entry)) (fs : List FetchText) (old new : Body) : Type 0 where
   pub needs : List Need
@@ -65,16 +55,6 @@ pub record FetchesMade (s : Calls) (t : List Binding) (n : ℕ) (xs : List (ℕ 
   pub loaded : map load_of new.loads.items ≡ map load_of old.loads.items ++ loads_from old.next_claim fs
   pub counted : new.next_claim ≡ old.next_claim + length fs
   pub lined : new.line ≡ old.line + 2 * length fs
-  pub held : new.windows.items ≡ old.windows.items
-
--- the nests of these definitions are made, each with its claim
-pub record NestsMade (g : StoredText) (fs : List FormulaText) (r : List Span1) (d : ℕ) (ns : List NestText) (xs : List Statement) (old new : Body) : Type 0 where
-  pub claims : List Claim
-  pub nested : AreNests g fs r (map load_of old.loads.items) old.next_claim old.line d ns xs claims
-  pub claimed : new.claims.items ≡ old.claims.items ++ claims
-  pub counted : new.next_claim ≡ old.next_claim + length ns
-  pub lined : new.line ≡ old.line + block_lines (block xs)
-  pub needed : new.needs.items ≡ old.needs.items
   pub held : new.windows.items ≡ old.windows.items
 
 -- the body is made, its claims and need lines stand behind those of other groups, and this is the line of its last statement

@@ -15,10 +15,10 @@ use Rattle.sched.specs.Placing.{has_double, start, all_in}
 use Rattle.sched.specs.Numbers.{numbers_named}
 use Rattle.sched.specs.Skeleton.{SkeletonText}
 use Rattle.sched.specs.Visits.{IsInExtents, IsInGrid}
-use Rattle.lower.specs.Stored.{FormulaText, StoredText}
-use Rattle.lower.specs.Regions.{skeleton_of}
-use Rattle.lower.specs.Blocks.{PartText, Whole, Run, Scattered, part_of, lay_over, dimensions_of, owned_region}
-use Rattle.lower.specs.Needs.{pieces_needed}
+use Rattle.sched.specs.Stored.{FormulaText, StoredText}
+use Rattle.regions.specs.Regions.{skeleton_of}
+use Rattle.blocks.specs.Blocks.{PartText, Whole, Run, Scattered, part_of, lay_over, dimensions_of, owned_region}
+use Rattle.regions.specs.Needs.{pieces_needed}
 
 -- ---- turns
 

@@ -1,10 +1,7 @@
 -- Why an algorithm and a schedule give no plan.
+-- What crates below need of it stands there: `sched`.
 use Rattle.std.specs.Prelude.{◌≡◌, ◌⊎◌, ℕ, true, false, List, length, map, Option, Some, None, Result, Ok, Err}
-use Rattle.lin.specs.declared.form.LinError.{LinError}
-use Rattle.lin.specs.declared.form.LinError.TheVariants as form
 use Rattle.meaning.specs.Algorithm.{Algorithm}
-use Rattle.subst.specs.declared.error.SubstError.{SubstError}
-use Rattle.subst.specs.declared.error.SubstError.TheVariants as put_in
 use Rattle.sched.specs.Schedule.{Schedule}
 use Rattle.sched.specs.declared.error.Rule.{Rule}
 use Rattle.sched.specs.declared.error.SchedError.{SchedError}
@@ -15,22 +12,21 @@ use Rattle.sched.specs.Subjects.{subject_said}
 use Rattle.lower.specs.declared.lowering.Lowered.{Lowered}
 use Rattle.sched.specs.declared.region_rule.RegionRule.{RegionRule}
 use Rattle.sched.specs.declared.region_rule.RegionRule.TheVariants as rule
-use Rattle.lower.specs.Stored.{StoredText, has_large, stored_functions}
+use Rattle.sched.specs.Stored.{StoredText}
+use Rattle.lower.specs.Stored.{has_large, stored_functions}
 use Rattle.lower.specs.Large.{IsToldOf}
-use Rattle.lower.specs.Faults.{are_whole, region_fault}
+use Rattle.regions.specs.Faults.{are_whole}
+use Rattle.lower.specs.Faults.{region_fault}
 use Rattle.lower.specs.Planned.{unplanned, unplanned_over}
 use Rattle.lower.specs.Uses.{AreUsedInside}
 use Rattle.lower.specs.Groups.{HasGroupsFrom, AreAllFoundIf, Come, placed_in, rooted, rounds}
 use Rattle.lower.specs.Homes.{AreAllAtHome}
 use Rattle.lower.specs.Broken.{Inside, first_told}
-use Rattle.lower.specs.Regions.{LaidText, laid_functions}
+use Rattle.sched.specs.Regions.{LaidText}
+use Rattle.regions.specs.Regions.{laid_functions}
 use Rattle.sched.specs.Legal as sched
-use Rattle.sched.specs.declared.skeleton.SkeletonError.{SkeletonError}
-use Rattle.sched.specs.declared.skeleton.SkeletonError.TheVariants as skeleton
 use Rattle.lower.specs.declared.error.LowerError.{LowerError}
 use Rattle.lower.specs.declared.error.LowerError.TheVariants as error
-use Rattle.lower.specs.declared.error.Stop.{Stop}
-use Rattle.lower.specs.declared.error.Stop.TheVariants as stop
 
 -- no definition of a stored function, with the calls of the others put in, passes 4096 nodes or 256 levels
 abbrev pub AreSmall : Algorithm → Schedule → Type 0
@@ -125,16 +121,3 @@ AnswersFrom a us gs n first o r = AnswersBy a gs (HasGroupsFrom a gs n first) (I
 -- as many rounds as there may be, from the regions that are needed of the loops over whole functions
 abbrev pub Answers : Algorithm → List SubjectText → List StoredText → Option (Rule × List ℕ) → Result Lowered LowerError → Type 0
 Answers a us gs o r = AnswersFrom a us gs (rounds gs) (laid_functions a gs) o r
-
-abbrev pub stop_of_form : LinError → Stop
-stop_of_form form.Memory = stop.Memory
-stop_of_form form.Limit = stop.Limit
-
-abbrev pub stop_of_skeleton : SkeletonError → Stop
-stop_of_skeleton skeleton.Memory = stop.Memory
-stop_of_skeleton skeleton.Limit = stop.Limit
-
-abbrev pub stop_of_put_in : SubstError → Stop
-stop_of_put_in put_in.Memory = stop.Memory
-stop_of_put_in put_in.Updates = stop.Limit
-stop_of_put_in put_in.TooLarge = stop.Limit

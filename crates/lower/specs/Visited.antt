@@ -14,13 +14,13 @@ use Rattle.sched.specs.Order.{Good}
 use Rattle.sched.specs.Skeleton.{NestText}
 use Rattle.sched.specs.Standing.{StandingText, form_named}
 use Rattle.sched.specs.Visits.{arrivals}
-use Rattle.lower.specs.declared.ends.Reach.{Reach}
-use Rattle.lower.specs.declared.standing.Run.{Run}
-use Rattle.lower.specs.Stored.{StoredText}
-use Rattle.lower.specs.Around.{bind_steps}
-use Rattle.lower.specs.Guarded.{is_joined, last_number, told_nest}
-use Rattle.lower.specs.Parted.{begun}
-use Rattle.lower.specs.Settled.{is_guarded, reach_named, turn_all}
+use Rattle.sched.specs.declared.ends.Reach.{Reach}
+use Rattle.sched.specs.declared.ends.Run.{Run}
+use Rattle.sched.specs.Stored.{StoredText}
+use Rattle.sched.specs.Around.{bind_steps}
+use Rattle.regions.specs.Guarded.{is_joined, last_number, told_nest}
+use Rattle.sched.specs.Parted.{begun}
+use Rattle.sched.specs.Settled.{is_guarded, reach_named, turn_all}
 
 -- ---- nests
 

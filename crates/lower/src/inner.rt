@@ -4,72 +4,50 @@ ghost use Rattle.std.specs.Prelude.{◌≡◌, [], IfOk, IfSome, Some, length, m
 ghost use Rattle.std.specs.Option.{option_map};
 ghost use Rattle.algo.specs.View.{algorithm_of};
 ghost use Rattle.sched.specs.Skeleton.{nest_seen};
-ghost use Rattle.lower.specs.Around.{bind_steps as bound_by};
+ghost use Rattle.sched.specs.Around.{bind_steps as bound_by};
 ghost use Rattle.lower.specs.Computed as computed;
-ghost use Rattle.lower.specs.Demanded as demanded;
-ghost use Rattle.lower.specs.Groups.{inners_of as placed_inners, root_of};
+ghost use Rattle.regions.specs.Demanded as demanded;
+ghost use Rattle.lower.specs.Groups.{inners_of as placed_inners};
+ghost use Rattle.sched.specs.Groups.{root_of};
 ghost use Rattle.lower.specs.Homes as spec;
-ghost use Rattle.lower.specs.Limited.{Gives};
-ghost use Rattle.lower.specs.Parted.{kept_region as kept_region_of};
-ghost use Rattle.lower.specs.Placed.{inner_seen, later_seen};
+ghost use Rattle.regions.specs.Homes as regions;
+ghost use Rattle.sched.specs.Limited.{Gives};
+ghost use Rattle.blocks.specs.Parted.{kept_region as kept_region_of};
+ghost use Rattle.sched.specs.Placed.{inner_seen, later_seen};
 ghost use Rattle.lower.specs.Rounded.{lain_kept, lain_seen};
 ghost use Rattle.lower.specs.Slid as slid;
-ghost use Rattle.lower.specs.Stored.{formula_of, stored_of};
-ghost use Rattle.lower.specs.Taken.{site_of};
-ghost use Rattle.lower.specs.Uses.{first_home};
+ghost use Rattle.regions.specs.Slid as regions_slid;
+ghost use Rattle.sched.specs.Stored.{formula_of, stored_of};
+ghost use Rattle.sched.specs.Taken.{site_of};
+ghost use Rattle.regions.specs.Uses.{first_home};
 
-use crate::demand::{is_scattered, is_small, needed_at, sites_at};
-use crate::ends::Needed;
-use crate::error::Stop;
-use crate::fetching::{Root, Site};
-use crate::parts::{fold_of, is_same_spot};
-use crate::rounded::{Lain, claim_of, lain_over};
-use crate::sliding::{
-    Later, Sliding, folded, folds_fit, held_region, later_of, sliding_dimension, track_of,
-};
-use crate::spots::{
-    Host, Hosted, Spot, home_of, host_at, hosts_named, is_over_grid, scope_at, spot_in, steps_at,
-    store_spot,
-};
-use crate::storage::{Arms, kept_region, storage_of};
+use crate::later::later_of;
+use crate::needs::needed_at;
+use crate::rounding::lain_over;
 use algo::Algo;
 use algo::scoping::same_name;
+use blocks::ends::Needed;
+use blocks::parts::{fold_of, is_same_spot};
+use blocks::rounded::{Lain, claim_of};
+use blocks::storage::{Arms, kept_region, storage_of};
 use lin::{Region, Scope};
 use plan::Places;
+use regions::demand::{is_scattered, is_small, sites_at};
+use regions::sliding::{Sliding, folded, folds_fit, held_region, sliding_dimension, track_of};
+use regions::spots::{
+    Hosted, home_of, host_at, hosts_named, is_over_grid, scope_at, spot_in, steps_at, store_spot,
+};
+use sched::hosts::{Host, Inner, Later, Spot};
+use sched::roots::{Root, Site};
+use sched::stop::Stop;
 use sched::{Home, Nest, Step};
 use std::alloc::{AllocError, Global};
 use tree::token::Name;
 
-/// A function that is computed inside loops.
-#[derive(Drop)]
-pub struct Inner<'a> {
-    pub root: Root<'a>,
-    /// Where it is computed.
-    pub home: Spot,
-    /// Where its buffer stands.
-    pub store: Spot,
-    /// What stands around its nests, their lets last.
-    pub scope: Scope,
-    /// What is needed of it there; where it slides, what it holds in each turn.
-    pub region: Region,
-    /// Of what its claims speak: of what updates set past the end too.
-    pub claimed: Region,
-    /// The lets before all nests, for the beginnings of blocks of which the claims speak.
-    pub lets: Vec<Step>,
-    pub nests: Vec<Nest>,
-    pub places: Vec<Places>,
-    /// The turns after the first one, where these make what is new alone.
-    pub later: Option<Later>,
-    /// Whether each of its folds is of the dimension in which it slides, with places for its window.
-    pub fits: bool,
-    /// Whether one turn needs no more numbers of a dimension than a function may have, nor do all for which its buffer stands.
-    pub is_small: bool,
-}
-
 // ---- functions
 
 fn dimension_of(sliding: &Option<Sliding>) -> Option<usize>
-    ensures { result ≡ slid.dimension_along (option_map slid.sliding_seen sliding.now) }
+    ensures { result ≡ slid.dimension_along (option_map regions_slid.sliding_seen sliding.now) }
 {
     match sliding {
         Some(sliding) => Some(sliding.dimension),
@@ -107,7 +85,7 @@ fn sliding_in(
     region: &Region,
     steps: &[Step],
 ) -> Result<Option<Sliding>, AllocError>
-    ensures { IfOk result (λ found. option_map slid.sliding_seen found ≡ slid.sliding_in (stored_of root.now.stored.now) region.now steps.now) }
+    ensures { IfOk result (λ found. option_map regions_slid.sliding_seen found ≡ slid.sliding_in (stored_of root.now.stored.now) region.now steps.now) }
 {
     let Some(track) = track_of(alloc, steps)? else {
         return Ok(None);
@@ -131,7 +109,7 @@ fn sliding_of<'a>(
     spots: (Spot, Spot),
     region: &Region,
 ) -> Result<Option<Sliding>, AllocError>
-    ensures { IfOk result (λ found. option_map slid.sliding_seen found ≡ slid.sliding_at (root_of group.now) (map inner_seen inners.now)
+    ensures { IfOk result (λ found. option_map regions_slid.sliding_seen found ≡ slid.sliding_at (root_of group.now) (map inner_seen inners.now)
         (stored_of root.now.stored.now) spots.0 spots.1 region.now) }
 {
     let (home, store) = spots;
@@ -174,7 +152,7 @@ fn may_hold(
     sliding: &Sliding,
 ) -> Result<bool, AllocError>
     ensures { IfOk result (λ yes. yes ≡ slid.may_hold (map root_of functions.now) (stored_of root.now.stored.now) scope.now held.now
-        (slid.sliding_seen sliding.now).0 (slid.sliding_seen sliding.now).1) }
+        (regions_slid.sliding_seen sliding.now).0 (regions_slid.sliding_seen sliding.now).1) }
 {
     if sliding.is_bare() {
         return Ok(true);
@@ -193,7 +171,7 @@ fn held_along(
     sliding: &Sliding,
 ) -> Result<Option<Region>, AllocError>
     ensures { IfOk result (λ found. found ≡ slid.held_along (map root_of functions.now) (stored_of root.now.stored.now) (map formula_of root.now.formulas.now)
-        scope.now region.now (slid.sliding_seen sliding.now)) }
+        scope.now region.now (regions_slid.sliding_seen sliding.now)) }
 {
     if !sliding.is_repeated(alloc, scope)? {
         return Ok(None);
@@ -221,12 +199,12 @@ fn turns_along(
     sliding: &Sliding,
 ) -> Result<(Region, Option<Later>), Stop>
     ensures holds { IfOk result (λ turns. slid.HoldsBy (stored_of root.now.stored.now) (map formula_of root.now.formulas.now) (length outer.now)
-        (slid.sliding_seen sliding.now) scope.now region.now (slid.held_along (map root_of functions.now) (stored_of root.now.stored.now)
-        (map formula_of root.now.formulas.now) scope.now region.now (slid.sliding_seen sliding.now)) turns.0 (option_map later_seen turns.1)) }
+        (regions_slid.sliding_seen sliding.now) scope.now region.now (slid.held_along (map root_of functions.now) (stored_of root.now.stored.now)
+        (map formula_of root.now.formulas.now) scope.now region.now (regions_slid.sliding_seen sliding.now)) turns.0 (option_map later_seen turns.1)) }
     ensures told { Gives result (λ turns. (turns.0, option_map later_seen turns.1)) (slid.turns_held (stored_of root.now.stored.now)
-        (map formula_of root.now.formulas.now) (length outer.now) scope.now region.now (slid.sliding_seen sliding.now)
+        (map formula_of root.now.formulas.now) (length outer.now) scope.now region.now (regions_slid.sliding_seen sliding.now)
         (slid.held_along (map root_of functions.now) (stored_of root.now.stored.now) (map formula_of root.now.formulas.now) scope.now region.now
-        (slid.sliding_seen sliding.now))) }
+        (regions_slid.sliding_seen sliding.now))) }
 {
     let Some(held) = held_along(alloc, functions, root, scope, region, sliding)? else {
         return Ok((region.copy(alloc)?, None));
@@ -248,10 +226,10 @@ fn turns_of(
     sliding: &Option<Sliding>,
 ) -> Result<(Region, Option<Later>), Stop>
     ensures holds { IfOk result (λ turns. slid.Holds (map root_of functions.now) (stored_of root.now.stored.now) (map formula_of root.now.formulas.now)
-        (length outer.now) scope.now region.now (option_map slid.sliding_seen sliding.now) turns.0 (option_map later_seen turns.1)) }
+        (length outer.now) scope.now region.now (option_map regions_slid.sliding_seen sliding.now) turns.0 (option_map later_seen turns.1)) }
     ensures told { Gives result (λ turns. (turns.0, option_map later_seen turns.1)) (slid.turns_of (stored_of root.now.stored.now)
         (map formula_of root.now.formulas.now) (length outer.now) scope.now region.now (map root_of functions.now)
-        (option_map slid.sliding_seen sliding.now)) }
+        (option_map regions_slid.sliding_seen sliding.now)) }
 {
     let Some(sliding) = sliding else {
         return Ok((region.copy(alloc)?, None));
@@ -291,16 +269,16 @@ fn inner_of<'a>(
     ensures store { IfOk result (λ one. one.store ≡ spots.1) }
     ensures scope { IfOk result (λ one. one.scope ≡ bound_by around.now one.lets.items) }
     ensures holds { IfOk result (λ one. slid.Holds (map root_of functions.now) (stored_of root.now.stored.now) (map formula_of root.now.formulas.now)
-        (length outer.now) around.now needed.now (option_map slid.sliding_seen sliding.now) one.region (option_map later_seen one.later)) }
+        (length outer.now) around.now needed.now (option_map regions_slid.sliding_seen sliding.now) one.region (option_map later_seen one.later)) }
     ensures lain { IfOk result (λ one. computed.IsLain (lain_kept (algorithm_of algo.now) (stored_of root.now.stored.now) (map formula_of root.now.formulas.now)
         around.now one.region (kept_region_of (length outer.now) around.now one.region)) (inner_seen one)) }
     ensures judged { IfOk result (λ one. computed.IsJudged (stored_of root.now.stored.now) outer.now around.now needed.now
-        (option_map slid.sliding_seen sliding.now) (inner_seen one)) }
+        (option_map regions_slid.sliding_seen sliding.now) (inner_seen one)) }
     ensures seated { IfOk result (λ one. computed.IsSeated (stored_of root.now.stored.now) outer.now (map site_of sites.now)
-        (option_map slid.sliding_seen sliding.now) (lain_kept (algorithm_of algo.now) (stored_of root.now.stored.now) (map formula_of root.now.formulas.now)
+        (option_map regions_slid.sliding_seen sliding.now) (lain_kept (algorithm_of algo.now) (stored_of root.now.stored.now) (map formula_of root.now.formulas.now)
         around.now one.region (kept_region_of (length outer.now) around.now one.region)) (inner_seen one)) }
     ensures told { Gives result inner_seen (computed.inner_over (algorithm_of algo.now) (map root_of functions.now) (root_of root.now) spots.0 spots.1
-        outer.now around.now needed.now (option_map slid.sliding_seen sliding.now) (map site_of sites.now)) }
+        outer.now around.now needed.now (option_map regions_slid.sliding_seen sliding.now) (map site_of sites.now)) }
 {
     let (home, store) = spots;
     let (region, later) = turns_of(alloc, functions, root, outer, around, needed, sliding)?;
@@ -354,11 +332,11 @@ fn made_at<'a>(
         ≡ Some (map site_of sites.now) }
     ensures root { IfOk result (λ one. one.root ≡ root.now) }
     ensures home { IfOk result (λ one. one.home ≡ home) }
-    ensures store { IfOk result (λ one. one.store ≡ spec.store_spot (spec.host_seen hosted.now) (root_of root.now).0.placed.stores home) }
+    ensures store { IfOk result (λ one. one.store ≡ regions.store_spot (regions.host_seen hosted.now) (root_of root.now).0.placed.stores home) }
     ensures computed { IfOk result (λ one. computed.IsComputed (algorithm_of algo.now) (root_of group.now) (map root_of functions.now)
         (map inner_seen inners.now) (root_of root.now) (inner_seen one)) }
     ensures told { Gives result inner_seen (computed.inner_called (algorithm_of algo.now) (root_of group.now) (map root_of functions.now)
-        (map inner_seen inners.now) (root_of root.now) (spec.host_seen hosted.now) home (map site_of sites.now)) }
+        (map inner_seen inners.now) (root_of root.now) (regions.host_seen hosted.now) home (map site_of sites.now)) }
 {
     let around = scope_at(alloc, group, inners, home)?;
     let needed = needed_at(alloc, algo, group, inners, root, home, &around, sites)?;
@@ -387,11 +365,11 @@ fn inner_at<'a>(
     ensures root { IfOk result (λ found. IfSome found (λ one. one.root ≡ root.now)) }
     ensures home { IfOk result (λ found. IfSome found (λ one. one.home ≡ home)) }
     ensures store { IfOk result (λ found. IfSome found
-        (λ one. one.store ≡ spec.store_spot (spec.host_seen hosted.now) (root_of root.now).0.placed.stores home)) }
+        (λ one. one.store ≡ regions.store_spot (regions.host_seen hosted.now) (root_of root.now).0.placed.stores home)) }
     ensures computed { IfOk result (λ found. computed.IsComputedAt (algorithm_of algo.now) (root_of group.now) (map root_of functions.now)
         (map inner_seen inners.now) (root_of root.now) home (option_map inner_seen found)) }
     ensures told { Gives result (option_map inner_seen) (computed.inner_at (algorithm_of algo.now) (root_of group.now) (map root_of functions.now)
-        (map inner_seen inners.now) (root_of root.now) (spec.host_seen hosted.now) home) }
+        (map inner_seen inners.now) (root_of root.now) (regions.host_seen hosted.now) home) }
 {
     let name = root.stored.subject.name;
     let sites = sites_at(alloc, algo, group, inners, home, name.as_str())?;
@@ -435,16 +413,16 @@ fn inner_in<'a>(
 ) -> Result<Option<Inner<'a>>, Stop>
     requires among { slice_get functions.now number ≡ Some root.now }
     requires homes { first_home (root_of root.now).0.placed.homes ≡ Some home.now }
-    requires hosted { spec.host_at (root_of group.now) (map inner_seen inners.now) host ≡ Some (spec.host_seen hosted.now) }
-    requires named { (spec.host_seen hosted.now).function.subject.name ≡ home.now.function }
+    requires hosted { regions.host_at (root_of group.now) (map inner_seen inners.now) host ≡ Some (regions.host_seen hosted.now) }
+    requires named { (regions.host_seen hosted.now).function.subject.name ≡ home.now.function }
     ensures at { IfOk result (λ found. IfSome found (λ one. spec.IsAtHome (root_of group.now) (map root_of functions.now) (map inner_seen inners.now)
         (inner_seen one))) }
     ensures computed { IfOk result (λ found. computed.IsComputedBy (algorithm_of algo.now) (root_of group.now) (map root_of functions.now)
-        (map inner_seen inners.now) (root_of root.now) (spec.spot_in host (spec.host_seen hosted.now) definition home.now.turn)
+        (map inner_seen inners.now) (root_of root.now) (regions.spot_in host (regions.host_seen hosted.now) definition home.now.turn)
         (option_map inner_seen found)) }
     ensures told { Gives result (option_map inner_seen) (computed.inner_by (algorithm_of algo.now) (root_of group.now) (map root_of functions.now)
-        (map inner_seen inners.now) (root_of root.now) (spec.host_seen hosted.now)
-        (spec.spot_in host (spec.host_seen hosted.now) definition home.now.turn)) }
+        (map inner_seen inners.now) (root_of root.now) (regions.host_seen hosted.now)
+        (regions.spot_in host (regions.host_seen hosted.now) definition home.now.turn)) }
 {
     match spot_in(host, hosted, definition, &home.turn)? {
         Some(spot) => inner_at(alloc, algo, group, functions, inners, root, hosted, spot),
@@ -470,15 +448,15 @@ fn inners_in<'a>(
 ) -> Result<Vec<Inner<'a>>, Stop>
     requires among { slice_get functions.now number ≡ Some root.now }
     requires homes { first_home (root_of root.now).0.placed.homes ≡ Some home.now }
-    requires hosted { spec.host_at (root_of group.now) (map inner_seen inners.now) host ≡ Some (spec.host_seen hosted.now) }
-    requires named { (spec.host_seen hosted.now).function.subject.name ≡ home.now.function }
+    requires hosted { regions.host_at (root_of group.now) (map inner_seen inners.now) host ≡ Some (regions.host_seen hosted.now) }
+    requires named { (regions.host_seen hosted.now).function.subject.name ≡ home.now.function }
     ensures at { IfOk result (λ v. spec.AreAt (root_of group.now) (map root_of functions.now) (map inner_seen inners.now) (map inner_seen v.items)) }
     ensures computed { IfOk result (λ v. computed.AreComputedAt (algorithm_of algo.now) (root_of group.now) (map root_of functions.now)
         (map inner_seen inners.now) (root_of root.now)
-        (computed.spots_in host (spec.host_seen hosted.now) home.now.turn definition (map nest_seen nests.now))
+        (computed.spots_in host (regions.host_seen hosted.now) home.now.turn definition (map nest_seen nests.now))
         (map inner_seen v.items)) }
     ensures told { Gives result (λ v. map inner_seen v.items) (computed.inners_in (algorithm_of algo.now) (root_of group.now) (map root_of functions.now)
-        (map inner_seen inners.now) (root_of root.now) host (spec.host_seen hosted.now) home.now.turn definition (map nest_seen nests.now)) }
+        (map inner_seen inners.now) (root_of root.now) host (regions.host_seen hosted.now) home.now.turn definition (map nest_seen nests.now)) }
 {
     match nests {
         [] => Ok(Vec::new(alloc)),
@@ -518,10 +496,10 @@ fn inners_at<'b, 'a>(
     ensures at { IfOk result (λ v. spec.AreAt (root_of group.now) (map root_of functions.now) (map inner_seen inners.now) (map inner_seen v.items)) }
     ensures computed { IfOk result (λ v. computed.AreComputedAt (algorithm_of algo.now) (root_of group.now) (map root_of functions.now)
         (map inner_seen inners.now) (root_of root.now)
-        (computed.spots_by home.now host (spec.host_at (root_of group.now) (map inner_seen inners.now) host))
+        (computed.spots_by home.now host (regions.host_at (root_of group.now) (map inner_seen inners.now) host))
         (map inner_seen v.items)) }
     ensures told { Gives result (λ v. map inner_seen v.items) (computed.inners_by (algorithm_of algo.now) (root_of group.now) (map root_of functions.now)
-        (map inner_seen inners.now) (root_of root.now) home.now host (spec.host_at (root_of group.now) (map inner_seen inners.now) host)) }
+        (map inner_seen inners.now) (root_of root.now) home.now host (regions.host_at (root_of group.now) (map inner_seen inners.now) host)) }
 {
     let Some(hosted) = host_at(group, inners, host) else {
         return Ok(Vec::new(alloc));

@@ -6,29 +6,32 @@ ghost use Rattle.std.specs.List.{list_any};
 ghost use Rattle.std.specs.Option.{option_map};
 ghost use Rattle.algo.specs.View.{algorithm_of};
 ghost use Rattle.lower.specs.Asked as asked;
+ghost use Rattle.regions.specs.Asked as regions;
 ghost use Rattle.lower.specs.Broken as broken;
 ghost use Rattle.lower.specs.Computed as computed;
-ghost use Rattle.lower.specs.Large.{IsByRegion};
-ghost use Rattle.lower.specs.Stored.{formula_of, stored_of};
-ghost use Rattle.lower.specs.Limited.{Gives, Tells};
-ghost use Rattle.lower.specs.Placed.{inner_seen, later_seen};
-ghost use Rattle.lower.specs.Regions.{laid_of};
-ghost use Rattle.lower.specs.Taken.{site_of};
+ghost use Rattle.blocks.specs.Large.{IsByRegion};
+ghost use Rattle.sched.specs.Stored.{formula_of, stored_of};
+ghost use Rattle.sched.specs.Limited.{Gives, Tells};
+ghost use Rattle.sched.specs.Placed.{inner_seen, later_seen};
+ghost use Rattle.sched.specs.Regions.{laid_of};
+ghost use Rattle.sched.specs.Taken.{site_of};
 ghost use Rattle.lower.specs.Groups as spec;
+ghost use Rattle.sched.specs.Groups as sched;
 ghost use Rattle.lower.specs.Homes as homes;
 ghost use Rattle.lower.specs.Planned as planned;
 
-use crate::definitions::{Formula, Stored};
-use crate::error::Stop;
-use crate::fetching::{Root, Site, sites_of};
-use crate::inner::{Inner, inners_of};
-use crate::legality::is_bounded;
-use crate::regions::{Ends, Laid, add_extents, closed, ends_of, is_same, unreached, widen};
-use crate::sliding::Later;
-use crate::turns::has_short_turn;
+use crate::inner::inners_of;
 use algo::Algo;
+use blocks::legality::is_bounded;
 use lin::{Region, Scope, Span1};
+use regions::fetching::sites_of;
+use regions::regions::{Ends, add_extents, closed, ends_of, is_same, unreached, widen};
+use regions::turns::has_short_turn;
 use sched::RegionRule;
+use sched::definitions::{Formula, Stored};
+use sched::hosts::{Inner, Later};
+use sched::roots::{Laid, Root, Site};
+use sched::stop::Stop;
 use std::alloc::{AllocError, Global};
 use tree::token::Name;
 
@@ -60,8 +63,8 @@ fn before_roots<'a>(
     laid: &'a Option<Laid>,
     roots: Vec<Root<'a>>,
 ) -> Result<Vec<Root<'a>>, AllocError>
-    ensures { IfOk result (λ v. map spec.root_of v.items ≡ spec.rooted_by is_root (stored_of stored.now) (stored_of stored.now).formulas
-        (option_map laid_of laid.entry.now) (map spec.root_of roots.entry.items)) }
+    ensures { IfOk result (λ v. map sched.root_of v.items ≡ spec.rooted_by is_root (stored_of stored.now) (stored_of stored.now).formulas
+        (option_map laid_of laid.entry.now) (map sched.root_of roots.entry.items)) }
 {
     let Some(formulas) = &stored.formulas else {
         return Ok(roots);
@@ -89,7 +92,7 @@ pub fn roots_of<'a>(
     laid: &'a [Option<Laid>],
     is_root: bool,
 ) -> Result<Vec<Root<'a>>, AllocError>
-    ensures { IfOk result (λ v. map spec.root_of v.items ≡ spec.rooted is_root (map stored_of stored.now) (map (option_map laid_of) laid.now)) }
+    ensures { IfOk result (λ v. map sched.root_of v.items ≡ spec.rooted is_root (map stored_of stored.now) (map (option_map laid_of) laid.now)) }
 {
     match stored {
         [] => Ok(Vec::new(alloc)),
@@ -112,8 +115,8 @@ fn inside_of<'a>(
     root: &Root<'a>,
 ) -> Result<Result<Vec<Inner<'a>>, Name>, AllocError>
     ensures none { IfOk result (λ inners. functions.now ≡ [] → spec.HasNone inners) }
-    ensures homes { IfOk result (λ inners. homes.AreAtHome (spec.root_of root.now) (map spec.root_of functions.now) (spec.inners_of inners)) }
-    ensures found { IfOk result (computed.AreFoundIf (algorithm_of algo.now) (spec.root_of root.now) (map spec.root_of functions.now) (length functions.now) []) }
+    ensures homes { IfOk result (λ inners. homes.AreAtHome (sched.root_of root.now) (map sched.root_of functions.now) (spec.inners_of inners)) }
+    ensures found { IfOk result (computed.AreFoundIf (algorithm_of algo.now) (sched.root_of root.now) (map sched.root_of functions.now) (length functions.now) []) }
 {
     if functions.is_empty() {
         return Ok(Ok(Vec::new(alloc)));
@@ -130,8 +133,8 @@ fn party_of<'a>(
 ) -> Result<Party<'a>, AllocError>
     ensures root { IfOk result (λ party. party.root ≡ root.now) }
     ensures alone { IfOk result (λ party. functions.now ≡ [] → spec.IsAlone party) }
-    ensures homes { IfOk result (λ party. homes.AreAtHome (spec.party_of party) (map spec.root_of functions.now) (spec.placed_of party)) }
-    ensures found { IfOk result (λ party. computed.AreFoundIf (algorithm_of algo.now) (spec.party_of party) (map spec.root_of functions.now)
+    ensures homes { IfOk result (λ party. homes.AreAtHome (spec.party_of party) (map sched.root_of functions.now) (spec.placed_of party)) }
+    ensures found { IfOk result (λ party. computed.AreFoundIf (algorithm_of algo.now) (spec.party_of party) (map sched.root_of functions.now)
         (length functions.now) [] party.inners) }
 {
     Ok(Party {
@@ -148,10 +151,10 @@ fn parties_from<'a>(
     functions: &[Root<'a>],
     roots: &[Root<'a>],
 ) -> Result<Vec<Party<'a>>, AllocError>
-    ensures roots { IfOk result (λ v. map spec.party_of v.items ≡ map spec.root_of roots.now) }
+    ensures roots { IfOk result (λ v. map spec.party_of v.items ≡ map sched.root_of roots.now) }
     ensures alone { IfOk result (λ v. functions.now ≡ [] → spec.AreAlone v.items) }
-    ensures homes { IfOk result (λ v. homes.AreAllAtHome (map spec.party_of v.items) (map spec.root_of functions.now) (map spec.placed_of v.items)) }
-    ensures found { IfOk result (λ v. spec.AreFoundOf (algorithm_of algo.now) (length functions.now) (map spec.root_of functions.now) v.items) }
+    ensures homes { IfOk result (λ v. homes.AreAllAtHome (map spec.party_of v.items) (map sched.root_of functions.now) (map spec.placed_of v.items)) }
+    ensures found { IfOk result (λ v. spec.AreFoundOf (algorithm_of algo.now) (length functions.now) (map sched.root_of functions.now) v.items) }
 {
     match roots {
         [] => Ok(Vec::new(alloc)),
@@ -445,7 +448,7 @@ fn add_ends(
     spans: &[Span1],
     reach: &mut Vec<Option<Ends>>,
 ) -> Result<(), Stop>
-    ensures { Tells result reach.new.items (asked.add_ends scope.now place spans.now reach.old.items) }
+    ensures { Tells result reach.new.items (regions.add_ends scope.now place spans.now reach.old.items) }
 {
     match spans {
         [] => Ok(()),
@@ -466,7 +469,7 @@ fn add_calls(
     calls: &[Region],
     reach: &mut Vec<Option<Ends>>,
 ) -> Result<(), Stop>
-    ensures { Tells result reach.new.items (asked.add_calls scope.now calls.now reach.old.items) }
+    ensures { Tells result reach.new.items (regions.add_calls scope.now calls.now reach.old.items) }
 {
     match calls {
         [] => Ok(()),
@@ -478,7 +481,7 @@ fn add_calls(
 }
 
 fn add_sites(alloc: Global, sites: &[Site], reach: &mut Vec<Option<Ends>>) -> Result<(), Stop>
-    ensures { Tells result reach.new.items (asked.add_sites (map site_of sites.now) reach.old.items) }
+    ensures { Tells result reach.new.items (regions.add_sites (map site_of sites.now) reach.old.items) }
 {
     match sites {
         [] => Ok(()),
@@ -507,7 +510,7 @@ fn add_party(
     party: &Party<'_>,
     reach: &mut Vec<Option<Ends>>,
 ) -> Result<(), Stop>
-    ensures { Tells result reach.new.items (asked.add_group (algorithm_of algo.now) name.now (spec.party_of party.now) (spec.placed_of party.now)
+    ensures { Tells result reach.new.items (regions.add_group (algorithm_of algo.now) name.now (spec.party_of party.now) (spec.placed_of party.now)
         reach.old.items) }
 {
     let sites = sites_of(alloc, algo, &party.root, inners_among(party), name)?;
@@ -522,7 +525,7 @@ fn add_parties(
     parties: &[Party<'_>],
     reach: &mut Vec<Option<Ends>>,
 ) -> Result<(), Stop>
-    ensures { Tells result reach.new.items (asked.add_groups (algorithm_of algo.now) name.now (map spec.party_of parties.now)
+    ensures { Tells result reach.new.items (regions.add_groups (algorithm_of algo.now) name.now (map spec.party_of parties.now)
         (map spec.placed_of parties.now) reach.old.items) }
 {
     match parties {

@@ -32,3 +32,12 @@ pub mod Bounding
 pub mod Staying
 pub mod Running
 pub mod Overrunning
+pub mod Along
+pub mod Bindings
+pub mod Calling
+pub mod Claimed
+pub mod Entries
+pub mod Named
+pub mod Places
+pub mod Stops
+pub mod Taken

@@ -2,18 +2,28 @@
 #![tactic(auto)]
 
 pub mod bodies;
+pub mod calls;
+pub mod definitions;
+pub mod ends;
 pub mod error;
+pub mod forms;
+pub mod hosts;
 pub mod keyword;
 pub mod laws;
+pub mod names;
 pub mod nest;
 pub mod numbers;
 pub mod parser;
 pub mod placing;
 pub mod reader;
 pub mod region_rule;
+pub mod roots;
 pub mod schedule;
+pub mod scopes;
 pub mod skeleton;
+pub mod stop;
 pub mod subject;
+pub mod windows;
 pub mod worked;
 
 pub use bodies::bodies_of;

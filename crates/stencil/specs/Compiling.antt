@@ -7,7 +7,7 @@ use Rattle.sched.specs.Legal.{IsLegal}
 use Rattle.sched.specs.Text.{IsRefused as IsRefusedText}
 use Rattle.sched.specs.declared.error.SchedError.{SchedError}
 use Rattle.lower.specs.Stored.{stored_functions}
-use Rattle.lower.specs.Faults.{are_whole}
+use Rattle.regions.specs.Faults.{are_whole}
 use Rattle.lower.specs.Refused.{AreRegionsKept, AreSmall, AreUsesInside, IsRefused as IsRefusedSchedule}
 use Rattle.lower.specs.Groups.{AreGroupsMade}
 use Rattle.completeness.specs.Laws.{HasOwnLines, WholeStands}

@@ -8,7 +8,7 @@ use crate::origins::{
     schedule_refused,
 };
 use algo::Code;
-use breaches::{Breach, unknown_word};
+use blocks::{Breach, unknown_word};
 use commands::marking::{Place, bytes_of, show, show_places};
 use commands::pipeline::Fault;
 use commands::{Files, Request, Way, tell_code};

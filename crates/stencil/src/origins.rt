@@ -4,11 +4,10 @@ ghost use Rattle.commands.specs.Files.{SameFiles};
 
 use crate::compiling::{compile_checked, plan_text, read_schedule};
 use algo::Algo;
-use breaches::{Breach, find_breach, find_region_breach};
+use blocks::{Breach, find_breach, find_region_breach};
 use commands::pipeline::{BrokenRule, Fault};
 use commands::{Files, algorithm_in};
-use lower::{LowerError, lower};
-use reasons::{Reason, reason};
+use lower::{LowerError, Reason, lower, reason};
 use sched::Sched;
 use std::alloc::Global;
 use std::str;

@@ -1,13 +1,13 @@
-use Rattle.std.proofs.Common.{◌≡◌, ◌+◌, List, Option, Some, None, length, map, refl, subst, arith}
+use Rattle.std.proofs.Common.{◌≡◌, List, Option, Some, None, length, map, refl, subst, arith}
 use Rattle.std.specs.Prelude.{slice_get}
 use Rattle.std.specs.Global.{Vec}
 use Rattle.std.proofs.lemmas.Option.{slice_get_past, slice_get_read}
 use Rattle.algo.specs.View.{algorithm_of}
-use Rattle.lower.specs.declared.inner.Inner.{Inner}
+use Rattle.sched.specs.declared.hosts.Inner.{Inner}
 use Rattle.lower.specs.Computed.{AreComputed, inners_of}
-use Rattle.lower.specs.Groups.{root_of}
+use Rattle.sched.specs.Groups.{root_of}
 use Rattle.lower.specs.Homes.{AreAt}
-use Rattle.lower.specs.Placed.{PlacedText, inner_seen}
+use Rattle.sched.specs.Placed.{PlacedText, inner_seen}
 use Rattle.lower.proofs.Along.{found_missing, found_more, none_more, limit_told}
 use Rattle.lower.proofs.Hosts.{more_at_home}
 use Rattle.lower.proofs.inner.+inners_before.Goals as goal

@@ -4,11 +4,11 @@ use Rattle.sched.specs.declared.nest.Nest.{Nest}
 use Rattle.sched.specs.declared.placing.Loop.{Loop}
 use Rattle.sched.specs.Skeleton.{nest_seen}
 use Rattle.lower.specs.Computed.{AreComputedAt, inners_in, spots_in}
-use Rattle.lower.specs.Groups.{root_of}
-use Rattle.lower.specs.Homes.{host_seen, is_over_grid}
-use Rattle.lower.specs.Placed.{inner_seen}
+use Rattle.sched.specs.Groups.{root_of}
+use Rattle.regions.specs.Homes.{host_seen, is_over_grid}
+use Rattle.sched.specs.Placed.{inner_seen}
 use Rattle.lower.proofs.Along.{computed_in_nests, told_in_nests}
-use Rattle.lower.proofs.Claimed.{one_first}
+use Rattle.sched.proofs.Claimed.{one_first}
 use Rattle.lower.proofs.inner.+inners_in.Goals as goal
 
 pub returns-in_ok-put_before-in-len1-up-2-clause-computed : goal.returns-in_ok-put_before-in-len1-up-2-clause-computed

@@ -1,9 +1,9 @@
 use Rattle.std.proofs.Common.{◌≡◌, ◌-◌, List, Some, length, take, drop, map, sym, subst}
 use Rattle.algo.specs.View.{algorithm_of}
-use Rattle.lower.specs.declared.spots.Host.{Host}
+use Rattle.sched.specs.declared.hosts.Host.{Host}
 use Rattle.lower.specs.Computed.{AreComputedAt, inners_of_hosts, spots_of_hosts}
-use Rattle.lower.specs.Groups.{root_of}
-use Rattle.lower.specs.Placed.{inner_seen}
+use Rattle.sched.specs.Groups.{root_of}
+use Rattle.sched.specs.Placed.{inner_seen}
 use Rattle.lower.proofs.Along.{computed_hosts, told_hosts}
 use Rattle.lower.proofs.Firsts.{one_any}
 use Rattle.lower.proofs.inner.+inners_of_hosts.Goals as goal

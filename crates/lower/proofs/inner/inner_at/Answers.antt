@@ -1,12 +1,12 @@
 use Rattle.std.proofs.Common.{◌≡◌, ℕ, List, Some, map, subst}
 use Rattle.algo.specs.View.{algorithm_of}
-use Rattle.lower.specs.Demanded.{sites_at}
-use Rattle.lower.specs.declared.fetching.Site.{Site}
+use Rattle.regions.specs.Demanded.{sites_at}
+use Rattle.sched.specs.declared.roots.Site.{Site}
 use Rattle.lower.specs.Computed.{inner_called}
-use Rattle.lower.specs.Groups.{root_of}
-use Rattle.lower.specs.Homes.{host_seen}
-use Rattle.lower.specs.Placed.{inner_seen}
-use Rattle.lower.specs.Taken.{site_of}
+use Rattle.sched.specs.Groups.{root_of}
+use Rattle.regions.specs.Homes.{host_seen}
+use Rattle.sched.specs.Placed.{inner_seen}
+use Rattle.sched.specs.Taken.{site_of}
 use Rattle.lower.proofs.Along.{computed_there, told_called}
 use Rattle.lower.proofs.inner.inner_at.Goals as goal
 

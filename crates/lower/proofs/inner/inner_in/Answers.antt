@@ -1,7 +1,7 @@
 use Rattle.std.proofs.Common.{map, sym, ◌∙◌}
-use Rattle.lower.specs.Groups.{root_of}
-use Rattle.lower.specs.Homes.{host_seen}
-use Rattle.lower.specs.Placed.{inner_seen}
+use Rattle.sched.specs.Groups.{root_of}
+use Rattle.regions.specs.Homes.{host_seen}
+use Rattle.sched.specs.Placed.{inner_seen}
 use Rattle.lower.proofs.Hosts.{each_at_home}
 use Rattle.lower.proofs.inner.inner_in.Goals as goal
 

@@ -2,12 +2,13 @@ use Rattle.std.proofs.Common.{◌≡◌, Some, length, map, sym, ap, ◌∙◌}
 use Rattle.std.specs.Option.{option_map}
 use Rattle.algo.specs.View.{algorithm_of}
 use Rattle.lower.specs.Computed.{are_small, seated, seats_of}
-use Rattle.lower.specs.Parted.{kept_region}
-use Rattle.lower.specs.Placed.{later_seen}
+use Rattle.blocks.specs.Parted.{kept_region}
+use Rattle.sched.specs.Placed.{later_seen}
 use Rattle.lower.specs.Rounded.{lain_kept, lain_over, lain_seen}
-use Rattle.lower.specs.Slid.{sliding_seen, dimension_along, folds_fit}
-use Rattle.lower.specs.Stored.{formula_of, stored_of}
-use Rattle.lower.specs.Taken.{site_of}
+use Rattle.regions.specs.Slid.{sliding_seen, folds_fit}
+use Rattle.lower.specs.Slid.{dimension_along}
+use Rattle.sched.specs.Stored.{formula_of, stored_of}
+use Rattle.sched.specs.Taken.{site_of}
 use Rattle.lower.proofs.inner.inner_of.Goals as goal
 
 pub returns-clause-judged : goal.returns-clause-judged

@@ -1,10 +1,11 @@
 use Rattle.std.proofs.Common.{◌≡◌, ◌+◌, ◌-◌, ◌<◌, length, take, drop, map, ap, sym, ◌∙◌, arith}
 use Rattle.std.specs.Option.{option_map}
 use Rattle.algo.specs.View.{algorithm_of}
-use Rattle.lower.specs.Stored.{stored_of}
-use Rattle.lower.specs.Regions.{laid_of}
-use Rattle.lower.specs.Calls.{call_of}
-use Rattle.lower.specs.Broken.{rule_of, totals_of}
+use Rattle.sched.specs.Stored.{stored_of}
+use Rattle.sched.specs.Regions.{laid_of}
+use Rattle.sched.specs.Calls.{call_of}
+use Rattle.lower.specs.Broken.{rule_of}
+use Rattle.blocks.specs.Broken.{totals_of}
 use Rattle.lower.specs.Groups.{inside_at}
 use Rattle.lower.specs.Uses.{is_use}
 use Rattle.lower.proofs.Breaking.{here_in, later_in}

@@ -1,8 +1,10 @@
 use Rattle.std.proofs.Common.{◌≡◌, ◌+◌, ◌-◌, List, length, map, take, drop, sym, subst, ◌∙◌, arith}
 use Rattle.lower.specs.declared.parties.Party.{Party}
 use Rattle.algo.specs.View.{algorithm_of}
-use Rattle.lower.specs.Groups.{AreAlone, AreKnown, BodiesMade, GroupsBy, party_of, placed_of, root_of}
-use Rattle.lower.proofs.Claimed.{bodies_first, one_first}
+use Rattle.lower.specs.Groups.{AreAlone, AreKnown, BodiesMade, GroupsBy, party_of, placed_of}
+use Rattle.sched.specs.Groups.{root_of}
+use Rattle.lower.proofs.Claimed.{bodies_first}
+use Rattle.sched.proofs.Claimed.{one_first}
 use Rattle.lower.proofs.Grouped.{groups_first}
 use Rattle.lower.proofs.lowering.+groups_from.Goals as goal
 

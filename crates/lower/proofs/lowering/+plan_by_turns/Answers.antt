@@ -7,8 +7,8 @@ use Rattle.lower.specs.declared.parties.Party.{Party}
 use Rattle.lower.specs.Asked.{unless}
 use Rattle.lower.specs.Groups.{IsKeptPlan, all_laid, asked, inside_at, is_missing, placed_in}
 use Rattle.lower.specs.Refused.{AnswersBy, IsFirstOver, IsNoneOver}
-use Rattle.lower.specs.Regions.{LaidText, laid_of}
-use Rattle.lower.specs.Stored.{stored_of}
+use Rattle.sched.specs.Regions.{LaidText, laid_of}
+use Rattle.sched.specs.Stored.{stored_of}
 use Rattle.lower.proofs.Asking.{no_others}
 use Rattle.lower.proofs.lowering.+plan_by_turns.Goals as goal
 

@@ -2,7 +2,8 @@ use Rattle.std.proofs.Common.{◌≡◌, map}
 use Rattle.algo.specs.View.{algorithm_of}
 use Rattle.sched.specs.View.{schedule_of}
 use Rattle.sched.specs.Placing.{subject_of, placed_of}
-use Rattle.lower.specs.Stored.{stored_of_all, stored_functions}
+use Rattle.blocks.specs.Stored.{stored_of_all}
+use Rattle.lower.specs.Stored.{stored_functions}
 use Rattle.lower.proofs.Told.{stored_told}
 use Rattle.lower.proofs.lowering.lower.Goals as goal
 

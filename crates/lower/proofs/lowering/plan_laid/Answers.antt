@@ -5,8 +5,8 @@ use Rattle.algo.specs.View.{algorithm_of}
 use Rattle.sched.specs.Placing.{subject_of}
 use Rattle.lower.specs.declared.error.LowerError.{LowerError}
 use Rattle.lower.specs.Broken.{asked_count}
-use Rattle.lower.specs.Stored.{stored_of}
-use Rattle.lower.specs.Regions.{laid_of}
+use Rattle.sched.specs.Stored.{stored_of}
+use Rattle.sched.specs.Regions.{laid_of}
 use Rattle.lower.specs.Groups.{IsKeptPlan, inside_at}
 use Rattle.lower.specs.Refused.{AnswersBy, IsFirstOver, IsNoneOver}
 use Rattle.lower.proofs.Told.{fault_told, placed_told, unplanned_told}

@@ -2,12 +2,13 @@ use Rattle.std.proofs.Common.{false, List, length, map, ap, refl, ◌∙◌}
 use Rattle.std.specs.Option.{option_map}
 use Rattle.std.specs.Global.{Vec}
 use Rattle.plan.specs.declared.plan.Group.{Group}
-use Rattle.lower.specs.declared.fetching.Root.{Root}
+use Rattle.sched.specs.declared.roots.Root.{Root}
 use Rattle.lower.specs.declared.lowering.Lowered.{Lowered}
-use Rattle.lower.specs.Stored.{stored_of}
-use Rattle.lower.specs.Regions.{laid_of}
+use Rattle.sched.specs.Stored.{stored_of}
+use Rattle.sched.specs.Regions.{laid_of}
 use Rattle.algo.specs.View.{algorithm_of}
-use Rattle.lower.specs.Groups.{party_of, root_of, rooted}
+use Rattle.lower.specs.Groups.{party_of, rooted}
+use Rattle.sched.specs.Groups.{root_of}
 use Rattle.lower.proofs.Grouped.{all_found}
 use Rattle.lower.proofs.Made.{plan_made}
 use Rattle.lower.proofs.lowering.planned.Goals as goal

@@ -1,0 +1,5 @@
+use Rattle.std.proofs.Common.{length}
+use Rattle.blocks.proofs.storage.+sites_from.Given as goal
+
+abbrev pub decreases-sites_from : goal.decreases-sites_from
+decreases-sites_from l = length l.sites.now

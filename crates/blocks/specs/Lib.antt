@@ -1,0 +1,17 @@
+pub mod Blocks
+pub mod Bodies
+pub mod Bounded
+pub mod Broken
+pub mod Faults
+pub mod Fetches
+pub mod Groups
+pub mod Large
+pub mod Loading
+pub mod Making
+pub mod Parted
+pub mod Placed
+pub mod Planned
+pub mod Renamed
+pub mod Rounded
+pub mod Seats
+pub mod Stored

@@ -1,5 +1,0 @@
-use Rattle.std.proofs.Common.{length}
-use Rattle.lower.proofs.blocks.+form_named.Given as goal
-
-abbrev pub decreases-form_named : goal.decreases-form_named
-decreases-form_named l = length l.known.now

@@ -1,6 +1,0 @@
-use Rattle.std.proofs.Common.{◌≡◌, ◌++◌, drop}
-use Rattle.lower.specs.Blocks.{claimed_region}
-use Rattle.lower.proofs.blocks.claimed_region.Given as goal
-
-abbrev pub invariant-loop-one : goal.invariant-loop-one
-invariant-loop-one l = l.region ++ claimed_region (drop l.one-index l.dimensions) ≡ claimed_region l.dimensions

@@ -1,6 +1,0 @@
-use Rattle.std.proofs.Common.{◌≡◌, ◌++◌, drop}
-use Rattle.lower.specs.Blocks.{own_places}
-use Rattle.lower.proofs.blocks.own_places.Given as goal
-
-abbrev pub invariant-loop-one : goal.invariant-loop-one
-invariant-loop-one l = l.places.items ++ own_places (drop l.one-index l.dimensions) ≡ own_places l.dimensions

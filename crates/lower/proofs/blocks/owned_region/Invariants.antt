@@ -1,6 +1,0 @@
-use Rattle.std.proofs.Common.{◌≡◌, ◌++◌, drop}
-use Rattle.lower.specs.Blocks.{owned_region}
-use Rattle.lower.proofs.blocks.owned_region.Given as goal
-
-abbrev pub invariant-loop-one : goal.invariant-loop-one
-invariant-loop-one l = l.region ++ owned_region (drop l.one-index l.dimensions) ≡ owned_region l.dimensions

@@ -1,4 +1,0 @@
-use Rattle.lower.proofs.counting.Names.+rests.Given as goal
-
-abbrev pub decreases-rests : goal.decreases-rests
-decreases-rests l = l.count

@@ -1,5 +1,0 @@
-use Rattle.std.proofs.Common.{length}
-use Rattle.lower.proofs.definitions.+stored_from.Given as goal
-
-abbrev pub decreases-stored_from : goal.decreases-stored_from
-decreases-stored_from l = length l.subjects.now

@@ -1,5 +1,0 @@
-use Rattle.std.proofs.Common.{length}
-use Rattle.lower.proofs.demand.+add_inside.Given as goal
-
-abbrev pub decreases-add_inside : goal.decreases-add_inside
-decreases-add_inside l = length l.rest.now

@@ -1,5 +1,0 @@
-use Rattle.std.proofs.Common.{length}
-use Rattle.lower.proofs.demand.+add_needed.Given as goal
-
-abbrev pub decreases-add_needed : goal.decreases-add_needed
-decreases-add_needed l = length l.extents.now

@@ -1,5 +1,0 @@
-use Rattle.std.proofs.Common.{length}
-use Rattle.lower.proofs.ends.+add_all_counted.Given as goal
-
-abbrev pub decreases-add_all_counted : goal.decreases-add_all_counted
-decreases-add_all_counted l = length l.variables.now

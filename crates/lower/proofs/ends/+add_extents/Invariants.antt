@@ -1,5 +1,0 @@
-use Rattle.std.proofs.Common.{length}
-use Rattle.lower.proofs.ends.+add_extents.Given as goal
-
-abbrev pub decreases-add_extents : goal.decreases-add_extents
-decreases-add_extents l = length l.spans.now

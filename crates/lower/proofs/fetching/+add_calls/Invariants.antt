@@ -1,5 +1,0 @@
-use Rattle.std.proofs.Common.{length}
-use Rattle.lower.proofs.fetching.+add_calls.Given as goal
-
-abbrev pub decreases-add_calls : goal.decreases-add_calls
-decreases-add_calls l = length l.calls.now

@@ -1,6 +1,0 @@
-use Rattle.std.proofs.Common.{◌≡◌, drop}
-use Rattle.lower.specs.Taken.{greatest_from}
-use Rattle.lower.proofs.fetching.greatest_from.Given as goal
-
-abbrev pub invariant-loop-form : goal.invariant-loop-form
-invariant-loop-form l = greatest_from (drop l.form-index l.forms) l.greatest ≡ greatest_from l.forms l.first

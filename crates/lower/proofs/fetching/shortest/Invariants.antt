@@ -1,6 +1,0 @@
-use Rattle.std.proofs.Common.{◌≡◌, drop}
-use Rattle.lower.specs.Taken.{shortest_from, shortest}
-use Rattle.lower.proofs.fetching.shortest.Given as goal
-
-abbrev pub invariant-loop-place : goal.invariant-loop-place
-invariant-loop-place l = shortest_from l.grid l.span.upper l.place (drop l.place l.span.lower) l.best ≡ shortest l.grid l.span

@@ -1,5 +1,0 @@
-use Rattle.std.proofs.Common.{length}
-use Rattle.lower.proofs.group.+fetches_from.Given as goal
-
-abbrev pub decreases-fetches_from : goal.decreases-fetches_from
-decreases-fetches_from l = length l.roots.now

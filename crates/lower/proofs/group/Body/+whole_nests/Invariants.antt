@@ -1,5 +1,0 @@
-use Rattle.std.proofs.Common.{length}
-use Rattle.lower.proofs.group.Body.+whole_nests.Given as goal
-
-abbrev pub decreases-whole_nests : goal.decreases-whole_nests
-decreases-whole_nests l = length l.nests.now

@@ -1,5 +1,0 @@
-use Rattle.std.proofs.Common.{length}
-use Rattle.lower.proofs.nests.+add_bodies.Given as goal
-
-abbrev pub decreases-add_bodies : goal.decreases-add_bodies
-decreases-add_bodies l = length l.formulas.now

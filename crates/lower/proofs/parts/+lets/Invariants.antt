@@ -1,5 +1,0 @@
-use Rattle.std.proofs.Common.{length}
-use Rattle.lower.proofs.parts.+lets.Given as goal
-
-abbrev pub decreases-lets : goal.decreases-lets
-decreases-lets l = length l.steps.now

@@ -1,5 +1,0 @@
-use Rattle.std.proofs.Common.{length}
-use Rattle.lower.proofs.pieces.+split_length.Given as goal
-
-abbrev pub decreases-split_length : goal.decreases-split_length
-decreases-split_length l = length l.cuts.now

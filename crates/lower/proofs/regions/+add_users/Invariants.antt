@@ -1,5 +1,0 @@
-use Rattle.std.proofs.Common.{length}
-use Rattle.lower.proofs.regions.+add_users.Given as goal
-
-abbrev pub decreases-add_users : goal.decreases-add_users
-decreases-add_users l = length l.later.now

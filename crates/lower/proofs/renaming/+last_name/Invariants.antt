@@ -1,5 +1,0 @@
-use Rattle.std.proofs.Common.{length}
-use Rattle.lower.proofs.renaming.+last_name.Given as goal
-
-abbrev pub decreases-last_name : goal.decreases-last_name
-decreases-last_name l = length l.names.now

@@ -1,4 +1,0 @@
-use Rattle.lower.proofs.renaming.+own_names.Given as goal
-
-abbrev pub decreases-own_names : goal.decreases-own_names
-decreases-own_names l = l.count

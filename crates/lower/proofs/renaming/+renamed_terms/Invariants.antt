@@ -1,5 +1,0 @@
-use Rattle.std.proofs.Common.{length}
-use Rattle.lower.proofs.renaming.+renamed_terms.Given as goal
-
-abbrev pub decreases-renamed_terms : goal.decreases-renamed_terms
-decreases-renamed_terms l = length l.terms.now

@@ -1,5 +1,0 @@
-use Rattle.std.proofs.Common.{length}
-use Rattle.lower.proofs.scopes.+add_coordinates.Given as goal
-
-abbrev pub decreases-add_coordinates : goal.decreases-add_coordinates
-decreases-add_coordinates l = length l.at.now

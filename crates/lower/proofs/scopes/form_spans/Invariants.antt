@@ -1,6 +1,0 @@
-use Rattle.std.proofs.Common.{◌≡◌, ◌++◌, drop, map}
-use Rattle.lower.specs.Around.{form_span}
-use Rattle.lower.proofs.scopes.form_spans.Given as goal
-
-abbrev pub invariant-loop-form : goal.invariant-loop-form
-invariant-loop-form l = l.spans ++ map form_span (drop l.form-index l.at) ≡ map form_span l.at

@@ -1,8 +1,0 @@
-use Rattle.std.proofs.Common.{◌≡◌, ◌++◌, ◌-◌, length, replicate}
-use Rattle.lin.specs.declared.scope.Binding.TheVariants.{Loop}
-use Rattle.lower.specs.Around.{anything}
-use Rattle.lower.proofs.scopes.skip_to.Given as goal
-
-abbrev pub invariant-loop-missing : goal.invariant-loop-missing
-invariant-loop-missing l =
-    l.scope ++ replicate (l.symbol - l.missing) (Loop anything) ≡ l.initial.scope ++ replicate (l.symbol - length l.initial.scope) (Loop anything)

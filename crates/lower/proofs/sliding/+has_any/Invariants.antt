@@ -1,5 +1,0 @@
-use Rattle.std.proofs.Common.{length}
-use Rattle.lower.proofs.sliding.+has_any.Given as goal
-
-abbrev pub decreases-has_any : goal.decreases-has_any
-decreases-has_any l = length l.symbols.now

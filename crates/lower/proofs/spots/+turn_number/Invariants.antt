@@ -1,5 +1,0 @@
-use Rattle.std.proofs.Common.{length}
-use Rattle.lower.proofs.spots.+turn_number.Given as goal
-
-abbrev pub decreases-turn_number : goal.decreases-turn_number
-decreases-turn_number l = length l.loops.now

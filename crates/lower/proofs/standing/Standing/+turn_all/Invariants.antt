@@ -1,5 +1,0 @@
-use Rattle.std.proofs.Common.{length}
-use Rattle.lower.proofs.standing.Standing.+turn_all.Given as goal
-
-abbrev pub decreases-turn_all : goal.decreases-turn_all
-decreases-turn_all l = length l.runs.now

@@ -1,5 +1,0 @@
-use Rattle.std.proofs.Common.{length}
-use Rattle.lower.proofs.storage.+sites_from.Given as goal
-
-abbrev pub decreases-sites_from : goal.decreases-sites_from
-decreases-sites_from l = length l.sites.now

@@ -1,5 +1,0 @@
-use Rattle.std.proofs.Common.{length}
-use Rattle.lower.proofs.telling.+is_telling.Given as goal
-
-abbrev pub decreases-is_telling : goal.decreases-is_telling
-decreases-is_telling l = length l.others.now

@@ -1,5 +1,0 @@
-use Rattle.std.proofs.Common.{length}
-use Rattle.lower.proofs.turns.+add_further.Given as goal
-
-abbrev pub decreases-add_further : goal.decreases-add_further
-decreases-add_further l = length l.counted.now

@@ -1,5 +1,0 @@
-use Rattle.std.proofs.Common.{length}
-use Rattle.lower.proofs.turns.+add_runs.Given as goal
-
-abbrev pub decreases-add_runs : goal.decreases-add_runs
-decreases-add_runs l = length l.loops.now

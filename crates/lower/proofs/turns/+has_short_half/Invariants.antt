@@ -1,5 +1,0 @@
-use Rattle.std.proofs.Common.{length}
-use Rattle.lower.proofs.turns.+has_short_half.Given as goal
-
-abbrev pub decreases-has_short_half : goal.decreases-has_short_half
-decreases-has_short_half l = length l.cuts.now

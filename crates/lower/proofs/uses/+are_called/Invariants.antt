@@ -1,5 +1,0 @@
-use Rattle.std.proofs.Common.{length}
-use Rattle.lower.proofs.uses.+are_called.Given as goal
-
-abbrev pub decreases-are_called : goal.decreases-are_called
-decreases-are_called l = length l.names.now

@@ -1,5 +1,0 @@
-use Rattle.std.proofs.Common.{length}
-use Rattle.lower.proofs.uses.+leading.Given as goal
-
-abbrev pub decreases-leading : goal.decreases-leading
-decreases-leading l = length l.stored.now

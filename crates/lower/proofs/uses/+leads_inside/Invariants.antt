@@ -1,5 +1,0 @@
-use Rattle.std.proofs.Common.{length}
-use Rattle.lower.proofs.uses.+leads_inside.Given as goal
-
-abbrev pub decreases-leads_inside : goal.decreases-leads_inside
-decreases-leads_inside l = length l.steps.now

@@ -1,5 +1,0 @@
-use Rattle.std.proofs.Common.{length}
-use Rattle.lower.proofs.uses.+stored_named.Given as goal
-
-abbrev pub decreases-stored_named : goal.decreases-stored_named
-decreases-stored_named l = length l.stored.now

@@ -1,5 +1,0 @@
-use Rattle.std.proofs.Common.{length}
-use Rattle.lower.proofs.whole.+lines_to.Given as goal
-
-abbrev pub decreases-lines_to : goal.decreases-lines_to
-decreases-lines_to l = length l.steps.now

@@ -1,5 +1,0 @@
-use Rattle.plan.proofs.Rows.{statement_of-seq}
-use Rattle.lower.proofs.whole.block_of.Goals as goal
-
-pub returns : goal.returns
-returns c = statement_of-seq c.args.inside

@@ -1,0 +1,14 @@
+pub mod Along
+pub mod Calling
+pub mod Demands
+pub mod Gathering
+pub mod Hosts
+pub mod Insides
+pub mod Outsides
+pub mod Places
+pub mod Rounds
+pub mod Sizes
+pub mod Stepping
+pub mod Stops
+pub mod Taken
+pub mod Within

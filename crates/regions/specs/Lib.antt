@@ -1,0 +1,17 @@
+pub mod Asked
+pub mod Broken
+pub mod Demanded
+pub mod Faults
+pub mod Guarded
+pub mod Homes
+pub mod Lacking
+pub mod Needs
+pub mod Regions
+pub mod Seats
+pub mod Settled
+pub mod Slid
+pub mod Stored
+pub mod Taken
+pub mod Turned
+pub mod Uses
+pub mod Windows
