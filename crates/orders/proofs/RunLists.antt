@@ -1,10 +1,11 @@
 -- Lists of cells by runs.
-use Rattle.std.proofs.Common.{◌≡◌, ℕ, zero, suc, ◌+◌, ◌-◌, ◌≤◌, ◌<◌, List, [], ◌∷◌, ◌++◌, length, take, drop, get_or, set, true, false, Some, arith, ap, sym, ◌∙◌, subst, append_assoc, append-nil, leb, inl, inr}
+use Rattle.std.proofs.Common.{◌≡◌, ℕ, Bool, ◌&&◌, refl, zero, suc, ◌+◌, ◌-◌, ◌≤◌, ◌<◌, List, [], ◌∷◌, ◌++◌, length, take, drop, get_or, set, true, false, Some, arith, ap, sym, ◌∙◌, subst, append_assoc, append-nil, leb, inl, inr}
 use Rattle.std.specs.Prelude.{slice_get}
+use Rattle.std.specs.Bool.{OnTrue}
 use Rattle.std.specs.List.{range_with_len}
 use Rattle.std.specs.List.Sorted.{IsNonDecreasingBy, IsPartitionPoint}
 use Rattle.std.proofs.lemmas.Bool.{cases_lt, leb-false, leb-true}
-use Rattle.std.proofs.lemmas.List.{get_or-drop, get_or-take, length-append, length-take-le, take_more, take_rest}
+use Rattle.std.proofs.lemmas.List.{get_or-drop, get_or-take, length-append, length-drop, length-take-le, take_more, take_rest}
 use Rattle.std.proofs.lemmas.List.FromFn.{length-range_with_len, get_or-range_with_len}
 use Rattle.std.proofs.lemmas.Option.{same_Some, slice_get-get_or, get_or_from_slice_get, slice_get_within}
 use Rattle.std.proofs.Math.ListN.{get_or-append}
@@ -147,10 +148,33 @@ pub range_more : (a n : ℕ) → range_with_len a (n + 1) ≡ range_with_len a n
 range_more a n = range_join a n 1
 
 -- cells that follow one another, of which one more does
+pub row_more_from : (cells : List ℕ) (first n : ℕ) → n < length cells → take n cells ≡ range_with_len first n → get_or cells n 0 ≡ first + n →
+    take (n + 1) cells ≡ range_with_len first (n + 1)
+row_more_from cells first n less before here =
+    take_more cells n 0 less ∙ ap (λ (xs : List ℕ). xs ++ get_or cells n 0 ∷ []) before ∙ ap (λ (x : ℕ). range_with_len first n ++ x ∷ []) here ∙ sym (range_more first n)
+
 pub row_more : (cells : List ℕ) (n : ℕ) → n < length cells → take n cells ≡ range_with_len (get_or cells 0 0) n → get_or cells n 0 ≡ get_or cells 0 0 + n →
     take (n + 1) cells ≡ range_with_len (get_or cells 0 0) (n + 1)
-row_more cells n less before here =
-    take_more cells n 0 less ∙ ap (λ (xs : List ℕ). xs ++ get_or cells n 0 ∷ []) before ∙ ap (λ (x : ℕ). range_with_len (get_or cells 0 0) n ++ x ∷ []) here ∙ sym (range_more (get_or cells 0 0) n)
+row_more cells n less before here = row_more_from cells (get_or cells 0 0) n less before here
+
+-- the same as far as a test of each cell says so
+pub row_more_if : (cells : List ℕ) (first n : ℕ) (all one : Bool) → n < length cells → OnTrue all (take n cells ≡ range_with_len first n) → (one ≡ true → get_or cells n 0 ≡ first + n) →
+    OnTrue (all && one) (take (n + 1) cells ≡ range_with_len first (n + 1))
+row_more_if cells first n false one less before here = tt
+row_more_if cells first n true false less before here = tt
+row_more_if cells first n true true less before here = row_more_from cells first n less before (here refl)
+
+-- the first cells and those behind them up to a place, which follow
+pub row_join : (cells : List ℕ) (first n end : ℕ) → n ≤ end → end ≤ length cells → take n cells ≡ range_with_len first n →
+    take (end - n) (drop n cells) ≡ range_with_len (first + n) (length (take (end - n) (drop n cells))) → take end cells ≡ range_with_len first end
+row_join cells first n end order within before behind =
+    let rest = length-drop n cells in
+    let long : length (take (end - n) (drop n cells)) ≡ end - n = length-take-le (end - n) (drop n cells) (omega (arith, rest, order, within)) in
+    let all : n + (end - n) ≡ end = omega (arith, order) in
+    let both : take (n + (end - n)) cells ≡ range_with_len first (n + (end - n)) =
+    take-add n (end - n) cells ∙ ap (λ (xs : List ℕ). xs ++ take (end - n) (drop n cells)) before
+    ∙ ap (λ (xs : List ℕ). range_with_len first n ++ xs) (behind ∙ ap (range_with_len (first + n)) long) ∙ sym (range_join first n (end - n)) in
+    subst (λ (k : ℕ). take k cells ≡ range_with_len first k) all both
 
 -- the cells up to a place, and those behind it that follow one another
 pub row_behind : (cells : List ℕ) (place count : ℕ) → place < length cells → (first : ℕ) → get_or cells place 0 ≡ first →

@@ -1,6 +1,7 @@
 //! Lists of cells that mostly follow one another.
 
 ghost use Rattle.std.specs.Prelude.{◌≡◌, ◌↔◌, ℕ, ◌+◌, ◌≤◌, ◌<◌, ◌^◌, [], ◌++◌, All, IsTrue, length, slice_index, take, IfOk, OnErr, OnOk};
+ghost use Rattle.std.specs.Bool.{OnTrue};
 ghost use Rattle.std.specs.List.{range_with_len};
 ghost use Rattle.orders.specs.CellRuns.{AreCounted, EndsAt, HasPlace, IsRun, cells_of};
 
@@ -128,6 +129,46 @@ fn add_cells(runs: &mut Vec<CellRun>, before: u32, first: u32, count: u32) -> Re
     push_run(runs, before, first, count)
 }
 
+/// How many cells are looked at together.
+const PART: usize = 32;
+
+/// Whether these cells follow one another from this one on. All are looked at, so that several are at once.
+fn is_row(cells: &[u32], first: u32) -> bool
+    requires { first + length cells.now < 2 ^ 32 }
+    ensures { OnTrue result (cells.now ≡ range_with_len first (length cells.now)) }
+{
+    let mut all = true;
+    for place in 0..cells.len() {
+        let one = cells[place] == first + place as u32;
+        all = all & one;
+    }
+    all
+}
+
+/// Whether so many cells, from this one on, have numbers that are not the last.
+fn is_within(first: u32, count: usize) -> bool
+    ensures { IsTrue result → first + count < 2 ^ 32 }
+{
+    count < (u32::MAX - first) as usize
+}
+
+/// How many of these cells, from the first on, follow one another, by whole parts.
+fn row_by_parts(cells: &[u32]) -> usize
+    requires { 0 < length cells.now }
+    ensures within { result ≤ length cells.now }
+    ensures run { take result cells.now ≡ range_with_len (slice_index cells.now 0) result }
+{
+    let first = cells[0];
+    let mut known = 0;
+    while cells.len() - known >= PART && is_within(first, known + PART) {
+        if !is_row(&cells[known..known + PART], first + known as u32) {
+            return known;
+        }
+        known += PART;
+    }
+    known
+}
+
 /// How many of these cells, from the first on, follow one another.
 pub fn run_length(cells: &[u32]) -> usize
     requires { 0 < length cells.now }
@@ -136,7 +177,7 @@ pub fn run_length(cells: &[u32]) -> usize
     ensures run { take result cells.now ≡ range_with_len (slice_index cells.now 0) result }
 {
     let first = u64::from(cells[0]);
-    for place in 1..cells.len() {
+    for place in row_by_parts(cells)..cells.len() {
         if u64::from(cells[place]) != first.saturating_add(place as u64) {
             return place;
         }

@@ -5,16 +5,16 @@ ghost use Rattle.std.specs.Bool.{OnTrue};
 ghost use Rattle.std.specs.List.Sorted.{IsStrictlyIncreasing};
 ghost use Rattle.piece.specs.Found.{first_found, number_or_zero};
 
-/// Whether each number is less than the next.
+/// Whether each number is less than the next. All are looked at, so that several are at once.
 pub(crate) fn is_rising(numbers: &[u32]) -> bool
     ensures { OnTrue result (IsStrictlyIncreasing numbers.now) }
 {
+    let mut all = true;
     for next in 1..numbers.len() {
-        if numbers[next] <= numbers[next - 1] {
-            return false;
-        }
+        let one = numbers[next - 1] < numbers[next];
+        all = all & one;
     }
-    true
+    all
 }
 
 /// The value at a place, none behind the last.

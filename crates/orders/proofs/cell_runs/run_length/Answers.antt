@@ -7,4 +7,4 @@ loop-place-preserved c =
     let cells = c.args.cells.now in
     let place = c.loop-place.place in
     let here : get_or cells place 0 ≡ get_or cells 0 0 + place = omega (arith, c.from.ensures, c.if-from-saturating_add.false, c.saturating_add.ensures, c.from-first.ensures, c.from.type_inv) in
-    (omega arith, row_more cells place c.loop-place-test.true c.loop-place.invariant.1 here)
+    row_more cells place c.loop-place-test.true c.loop-place.invariant here
