@@ -66,7 +66,7 @@ pub record ColourRow (x : Planes) (n first count pixel colour : ℕ) : Type 0 wh
   pub one : pixel + count ≤ x.pixels
 
 -- a cell is one of a row, or none of it
-in_row : (first count c : ℕ) → ((k : ℕ) × (k < count) × (first + k ≡ c)) ⊎ (first ≤ c → c < first + count → ⊥)
+pub in_row : (first count c : ℕ) → ((k : ℕ) × (k < count) × (first + k ≡ c)) ⊎ (first ≤ c → c < first + count → ⊥)
 in_row first count c = elim (cases_lt c first) [
   | inl before ↦ inr (λ past _. omega (arith, before, past))
   | inr past ↦ elim (cases_lt c (first + count)) [
@@ -94,7 +94,7 @@ module _ (x : Planes) (n first count pixel colour : ℕ) (row : ColourRow x n fi
   colour_within k lt = let below = place_inside x (first + k - n) (cell_in k lt) in let at = colour_place k lt in omega (arith, below, at)
 
   -- the sample of a cell that is none of the row stands elsewhere
-  other_place : (c : ℕ) → n ≤ c → c < n + in_planes x → (first ≤ c → c < first + count → ⊥) → (k : ℕ) → k < count → place_of_cell x n c ≢ pixel * x.colours + colour + k * x.colours
+  pub other_place : (c : ℕ) → n ≤ c → c < n + in_planes x → (first ≤ c → c < first + count → ⊥) → (k : ℕ) → k < count → place_of_cell x n c ≢ pixel * x.colours + colour + k * x.colours
   other_place c past lt outside k k_lt is =
       let stands = row.stands in
       let same : c - n ≡ first + k - n = one_cell x (c - n) (first + k - n) (omega (arith, past, lt)) (cell_in k k_lt) (is ∙ sym (colour_place k k_lt)) in

@@ -10,3 +10,4 @@ pub mod Sheets
 pub mod ByCell
 pub mod InParts
 pub mod ColourRows
+pub mod Pixels

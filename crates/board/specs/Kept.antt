@@ -54,6 +54,22 @@ pub record AreWritten (numbers : List ℕ) (from count place step : ℕ) (old ne
   pub there : (k : ℕ) → k < count → slice_index new (place + k * step) ≡ slice_index numbers (from + k)
   pub others : (i : ℕ) → ((k : ℕ) → k < count → i ≢ place + k * step) → slice_index new i ≡ slice_index old i
 
+-- of a list of three colours, one behind the other, so many numbers of each, the first so many stand in a list from a place on, those of a pixel side by side, and all else is as before
+pub record AreWoven (numbers : List ℕ) (count done place : ℕ) (old new : List ℕ) : Type 0 where
+  pub one : (k : ℕ) → k < done → slice_index new (place + k * 3) ≡ slice_index numbers k
+  pub two : (k : ℕ) → k < done → slice_index new (place + k * 3 + 1) ≡ slice_index numbers (count + k)
+  pub three : (k : ℕ) → k < done → slice_index new (place + k * 3 + 2) ≡ slice_index numbers (count + count + k)
+  pub others : (i : ℕ) → ((k : ℕ) → k < done → (i ≢ place + k * 3) × (i ≢ place + k * 3 + 1) × (i ≢ place + k * 3 + 2)) → slice_index new i ≡ slice_index old i
+
+-- behind n other cells, cells are those of three planes at so many pixels, from one on, plane by plane
+pub record AreOfPixels (x : Planes) (n : ℕ) (cells : List ℕ) (pixel count : ℕ) : Type 0 where
+  pub colours : x.colours ≡ 3
+  pub inside : pixel + count ≤ x.pixels
+  pub all : length cells ≡ count + count + count
+  pub one : (k : ℕ) → k < count → slice_index cells k ≡ n + pixel + k
+  pub two : (k : ℕ) → k < count → slice_index cells (count + k) ≡ n + x.pixels + pixel + k
+  pub three : (k : ℕ) → k < count → slice_index cells (count + count + k) ≡ n + x.pixels + x.pixels + pixel + k
+
 -- the cells of a part of a list follow each other
 abbrev pub FollowEachOther : List ℕ → ℕ → ℕ → Type 0
 FollowEachOther cells from to = (k : ℕ) → from ≤ k → k < to → slice_index cells k ≡ slice_index cells from + (k - from)

@@ -2,7 +2,7 @@
 
 ghost use Rattle.std.specs.Prelude.{◌+◌, ◌*◌, ◌^◌, ◌<◌, ◌≤◌, ℕ, length, slice_index};
 ghost use Rattle.board.specs.CellBits.{bits_in};
-ghost use Rattle.board.specs.Kept.{AreWritten};
+ghost use Rattle.board.specs.Kept.{AreWoven, AreWritten};
 
 use crate::cell_bits::CellBits;
 
@@ -58,6 +58,20 @@ fn copy_row(bytes: &mut [u8], place: usize, numbers: &[u8], from: usize, count: 
     let (_, rest) = bytes.split_at_mut(place);
     let (part, _) = rest.split_at_mut(count);
     part.copy_from_slice(row);
+}
+
+/// Writes bytes of three colours, one colour behind the other, so many of each, side by side: those of a pixel, and then those of the
+/// next, from a place on. All bytes behind the place are written, one after another, so that LLVM takes several pixels at once.
+pub(crate) fn write_pixels(bytes: &mut [u8], place: usize, numbers: &[u8], count: usize)
+    requires numbers { count + count + count ≤ length numbers.now }
+    requires room { place + count * 3 ≤ length bytes.old }
+    ensures { AreWoven numbers.now count count place bytes.old bytes.new }
+{
+    for turn in 0..count {
+        bytes[place + turn * 3] = numbers[turn];
+        bytes[place + turn * 3 + 1] = numbers[count + turn];
+        bytes[place + turn * 3 + 2] = numbers[count + count + turn];
+    }
 }
 
 // Writes words by a loop whose step is known, where it is that of grey or of three colours.

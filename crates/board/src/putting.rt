@@ -2,18 +2,18 @@
 //!
 //! The cells of a piece are told by runs of cells that follow each other: each is put by loops that look at no cell.
 
-ghost use Rattle.std.specs.Prelude.{◌≡◌, ◌+◌, ◌-◌, ◌*◌, ◌^◌, ◌<◌, ◌≤◌, ℕ, length, slice_index};
+ghost use Rattle.std.specs.Prelude.{◌≡◌, ◌+◌, ◌-◌, ◌*◌, ◌^◌, ◌<◌, ◌≤◌, ℕ, length, slice_index, IfSome};
 ghost use Rattle.std.specs.Bool.{OnTrue};
 ghost use Rattle.board.specs.CellBits.{bits_in};
-ghost use Rattle.board.specs.Kept.{all_bits, in_planes, AreSamples, FollowEachOther};
+ghost use Rattle.board.specs.Kept.{all_bits, in_planes, AreOfPixels, AreSamples, FollowEachOther};
 ghost use Rattle.board.specs.Sheets.{bits_at, AreOfRow, HasBits, HasRow};
 
-use crate::bytes::write_each;
+use crate::bytes::{write_each, write_pixels};
 use crate::cell_bits::CellBits;
 use crate::kept::pixel_of;
 use crate::law::Run;
 use crate::source::Planes;
-use orders::CellRuns;
+use orders::{CellRun, CellRuns};
 
 /// How many cells at most are looked at together.
 pub(crate) const PART: usize = 1024;
@@ -203,8 +203,8 @@ fn put_row<J: Run>(
     }
 }
 
-/// Sets cells to the bits of their values. A cell that had them has them still.
-pub(crate) fn put_bits<J: Run>(
+// Sets cells to the bits of their values, run by run.
+fn put_runs<J: Run>(
     bits_now: &mut [u32],
     samples: &mut [u8],
     planes: Planes,
@@ -226,5 +226,85 @@ pub(crate) fn put_bits<J: Run>(
         let count = run.count as usize;
         put_row::<J>(bits_now, samples, planes, first, values, from, count);
         from += count;
+    }
+}
+
+// Whether a run has as many cells as another, each so many behind that one's.
+fn is_behind(one: CellRun, other: CellRun, pixels: usize) -> bool
+    ensures { OnTrue result ((other.count ≡ one.count) × (other.first ≡ one.first + pixels)) }
+{
+    one.count == other.count
+        && one.first <= other.first
+        && (other.first - one.first) as usize == pixels
+}
+
+/// Pixels that follow one another.
+#[derive(Clone, Copy, Drop)]
+pub(crate) struct PixelRow {
+    pub first: usize,
+    pub count: usize,
+}
+
+// The pixels whose cells these are, behind so many other cells, where they have three colours and follow one another.
+fn pixels_of(before: usize, planes: Planes, cells: &CellRuns) -> Option<PixelRow>
+    ensures { IfSome result (λ row. AreOfPixels planes before cells.now row.first row.count) }
+{
+    let runs = cells.runs();
+    if planes.colours != 3 || runs.len() != 3 {
+        return None;
+    }
+    if !is_behind(runs[0], runs[1], planes.pixels) || !is_behind(runs[1], runs[2], planes.pixels) {
+        return None;
+    }
+    let cell = runs[0].first as usize;
+    let count = runs[0].count as usize;
+    if cell < before || planes.pixels < count || planes.pixels - count < cell - before {
+        return None;
+    }
+    Some(PixelRow {
+        first: cell - before,
+        count,
+    })
+}
+
+// Sets the cells of pixels that follow one another, which are kept as samples of three colours, all in one pass.
+fn put_pixels<J: Run>(
+    bits_now: &[u32],
+    samples: &mut [u8],
+    planes: Planes,
+    cells: &CellRuns,
+    values: &[u8],
+    row: PixelRow,
+)
+    requires values { values.now ≡ bits_at J.values cells.now }
+    requires row { AreOfPixels planes (length bits_now.now) cells.now row.first row.count }
+    requires fits { in_planes planes ≤ length samples.old }
+    ensures put { (k : ℕ) → k < length cells.now → HasBits J.values (all_bits planes bits_now.now samples.new) (slice_index cells.now k) }
+    ensures more { (c : ℕ) → HasBits J.values (all_bits planes bits_now.now samples.old) c → HasBits J.values (all_bits planes bits_now.now samples.new) c }
+{
+    write_pixels(samples, row.first * 3, values, row.count);
+}
+
+/// Sets cells to the bits of their values. A cell that had them has them still. Pixels of three colours that follow one another, as most
+/// pictures with colours have them, take one pass for all of their colours, where the values stand in bytes.
+pub(crate) fn put_bits<J: Run>(
+    bits_now: &mut [u32],
+    samples: &mut [u8],
+    planes: Planes,
+    cells: &CellRuns,
+    values: CellBits<'_>,
+)
+    requires values { bits_in values ≡ bits_at J.values cells.now }
+    requires inside { (k : ℕ) → k < length cells.now → slice_index cells.now k < length bits_now.old + in_planes planes }
+    requires fits { in_planes planes ≤ length samples.old }
+    requires samples { AreSamples J.values (length bits_now.old) (length bits_now.old + in_planes planes) }
+    ensures put { (k : ℕ) → k < length cells.now → HasBits J.values (all_bits planes bits_now.new samples.new) (slice_index cells.now k) }
+    ensures more { (c : ℕ) → HasBits J.values (all_bits planes bits_now.old samples.old) c → HasBits J.values (all_bits planes bits_now.new samples.new) c }
+{
+    match (values, pixels_of(bits_now.len(), planes, cells)) {
+        (CellBits::Bytes(bytes), Some(row)) => {
+            put_pixels::<J>(bits_now, samples, planes, cells, bytes, row);
+        }
+        _ => put_runs::<J>(bits_now, samples, planes, cells, values),
     }
 }

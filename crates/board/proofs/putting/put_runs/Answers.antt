@@ -10,7 +10,7 @@ use Rattle.board.specs.Layout.{value_at}
 use Rattle.board.specs.Sheets.{HasBits}
 use Rattle.board.specs.Words.{bits_of}
 use Rattle.board.proofs.Sheets.{bits_at_place, cells_more, run_stands, run_within}
-use Rattle.board.proofs.putting.put_bits.Goals as goal
+use Rattle.board.proofs.putting.put_runs.Goals as goal
 
 abbrev none : CellRun
 none = record { first = 0; count = 0; before = 0 }

@@ -3,7 +3,7 @@ use Rattle.std.specs.Prelude.{slice_index}
 use Rattle.orders.specs.CellRuns.{cells_of}
 use Rattle.board.specs.Kept.{all_bits}
 use Rattle.board.specs.Sheets.{HasBits}
-use Rattle.board.proofs.putting.put_bits.Given as goal
+use Rattle.board.proofs.putting.put_runs.Given as goal
 
 abbrev pub invariant-loop-run : goal.invariant-loop-run
 invariant-loop-run g l = record {
