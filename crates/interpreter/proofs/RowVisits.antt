@@ -59,12 +59,13 @@ below_all f (u ∷ us) b z le h =
     let high = le_is b (f u) parts.0 in
     λ i. is_le z (f u) (omega (arith, ints, le, high)) i && below_all f us b z le parts.1 i
 
--- a span that has two numbers has those between them
-pub span_between : (s : Symbols) (x : Span1) (a b z : ℤ) → is_in_span s x a ≡ true → is_in_span s x b ≡ true → a ≤ℤ z → z ≤ℤ b → is_in_span s x z ≡ true
-span_between s x a b z h g from to =
-    let low = and_parts (list_all (λ l. int_le (form_value l s) a) x.lower) (list_all (λ u. int_le a (form_value u s)) x.upper) h in
-    let high = and_parts (list_all (λ l. int_le (form_value l s) b) x.lower) (list_all (λ u. int_le b (form_value u s)) x.upper) g in
-    λ i. above_all (λ l. form_value l s) x.lower a z from low.0 i && below_all (λ u. form_value u s) x.upper b z to high.1 i
+-- a span has the numbers between two, one of which is not below it and the other not above it
+pub span_by_ends : (s : Symbols) (x : Span1) (a b z : ℤ) (ls us : List Form) → list_all (λ l. int_le (form_value l s) a) ls ≡ true →
+    list_all (λ u. int_le b (form_value u s)) us ≡ true → a ≤ℤ z → z ≤ℤ b → ls ≡ x.lower → us ≡ x.upper → is_in_span s x z ≡ true
+span_by_ends s x a b z ls us h g from to lower upper =
+    let low = above_all (λ l. form_value l s) ls a z from h in
+    let high = below_all (λ u. form_value u s) us b z to g in
+    λ i. (ap (list_all (λ l. int_le (form_value l s) z)) (sym lower) ∙ low) i && (ap (list_all (λ u. int_le z (form_value u s))) (sym upper) ∙ high) i
 
 pub row_inside : (s : Symbols) (xs : List Span1) (x : Span1) (later : List Span1) (z : ℤ) (others : List ℤ) → xs ≡ x ∷ later → is_in_span s x z ≡ true → is_in_region s later others ≡ true →
     is_in_region s xs (z ∷ others) ≡ true

@@ -9,13 +9,15 @@ ghost use Rattle.interpreter.specs.Claims.{Means};
 
 use meaning::sameness::same_name;
 
-/// Whether the names are the same. Names of one byte, as most variables have, and such as begin with other bytes are compared in place.
+/// Whether the names are the same. Names of one byte, as most variables have, or of two, and such as begin
+/// with other bytes are compared in place.
 #[inline(always)]
 pub(crate) fn is_named(left: &str, right: &str) -> bool
     ensures { result ≡ same_name left.now right.now }
 {
     match (left.as_bytes(), right.as_bytes()) {
         ([first], [second]) => first == second,
+        ([first, second], [third, fourth]) => first == third && second == fourth,
         ([first, ..], [second, ..]) if first != second => false,
         _ => same_name(left, right),
     }

@@ -30,7 +30,7 @@ use crate::piece::Piece;
 use crate::scanlines::{distance, row_type};
 use crate::state::State;
 use crate::symbols::Symbols;
-use crate::visits::{Numbers, Visit, Walk, claim_buffer, is_in_region, is_in_span};
+use crate::visits::{Numbers, Visit, Walk, are_at_most, claim_buffer, is_at_most, is_in_region};
 use lin::Span1;
 use numeric::Ty;
 use tree::Value;
@@ -40,7 +40,8 @@ fn are_in_span(span: &Span1, numbers: Numbers, symbols: &Symbols) -> bool
     requires { SpanIsNarrow (symbols_of symbols.now) span.now }
     ensures { OnTrue result ((z : ℤ) → numbers.low ≤ℤ z → z ≤ℤ numbers.high → is_in_span (symbols_of symbols.now) span.now z ≡ true) }
 {
-    is_in_span(span, numbers.low, symbols) && is_in_span(span, numbers.high, symbols)
+    are_at_most(span.lower.as_slice(), numbers.low, symbols)
+        && is_at_most(numbers.high, span.upper.as_slice(), symbols)
 }
 
 /// Whether all points of a row lie in a region: those whose first coordinate is one of the numbers, and whose others are these.

@@ -82,6 +82,7 @@ impl RunReading<'_, '_> {
     }
 
     /// Where a name is read. Nothing where it means nothing, or the buffer that the run stores to.
+    #[inline(always)]
     fn source(&self, name: &str) -> Option<Source>
         ensures { IfSome result (Means self.now name.now) }
     {
@@ -273,6 +274,7 @@ impl RunReading<'_, '_> {
 
     /// The samples that an input of fewer dimensions has at so many points whose first coordinate rises by one, lent where they are
     /// kept in one byte each and cast to a type.
+    #[inline(always)]
     fn lend_sample_row(
         &self,
         first: i64,
@@ -296,6 +298,7 @@ impl RunReading<'_, '_> {
 
     /// The numbers of so many of a buffer's places whose first coordinate rises by one, lent where all hold values of one type, and their
     /// low bits are as well those of the type that they are cast to, if there is one.
+    #[inline(always)]
     fn lend_place_row(
         &self,
         buffer: u64,

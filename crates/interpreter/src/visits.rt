@@ -44,7 +44,7 @@ pub(crate) struct Walk<'a, 's> {
 }
 
 /// Whether each of some forms is at most a number.
-fn are_at_most(forms: &[Lin], number: i64, symbols: &Symbols) -> bool
+pub(crate) fn are_at_most(forms: &[Lin], number: i64, symbols: &Symbols) -> bool
     requires { FormsAreNarrow (symbols_of symbols.now) forms.now }
     ensures { result ≡ list_all (λ l. int_le (form_value l (symbols_of symbols.now)) number) forms.now }
 {
@@ -57,7 +57,7 @@ fn are_at_most(forms: &[Lin], number: i64, symbols: &Symbols) -> bool
 }
 
 /// Whether a number is at most each of some forms.
-fn is_at_most(number: i64, forms: &[Lin], symbols: &Symbols) -> bool
+pub(crate) fn is_at_most(number: i64, forms: &[Lin], symbols: &Symbols) -> bool
     requires { FormsAreNarrow (symbols_of symbols.now) forms.now }
     ensures { result ≡ list_all (λ u. int_le number (form_value u (symbols_of symbols.now))) forms.now }
 {
@@ -70,7 +70,7 @@ fn is_at_most(number: i64, forms: &[Lin], symbols: &Symbols) -> bool
 }
 
 /// Whether a number lies in a span.
-pub(crate) fn is_in_span(span: &Span1, number: i64, symbols: &Symbols) -> bool
+fn is_in_span(span: &Span1, number: i64, symbols: &Symbols) -> bool
     requires { SpanIsNarrow (symbols_of symbols.now) span.now }
     ensures { result ≡ is_in_span (symbols_of symbols.now) span.now number }
 {

@@ -168,6 +168,7 @@ impl Buffer {
 
     /// What is held at the points with these coordinates behind the first one. Nothing where they have no places, or places
     /// that are used again and again.
+    #[inline(always)]
     pub(crate) fn scanline(&self, others: &[i64]) -> Option<Scanline<'_>>
         ensures { IfSome result (λ l. (z : ℤ) (v : ValueHeld) → along (places_held l.held) (z -ℤ l.origin) ≡ Some (Some v) → held_at (held_in self.now) (place self.now.rooms (z ∷ others.now)) ≡ Some v) }
     {

@@ -179,6 +179,7 @@ impl Buffers {
 
     /// What is held at the points with these coordinates behind the first one. Nothing where there is no such buffer, or the
     /// points have no places, or places that are used again and again.
+    #[inline(always)]
     pub(crate) fn scanline(&self, buffer: u64, others: &[i64]) -> Option<Scanline<'_>>
         ensures { IfSome result (λ l. (z : ℤ) (v : ValueHeld) → along (places_held l.held) (z -ℤ l.origin) ≡ Some (Some v) → read (memory_of self.now) buffer (z ∷ others.now) ≡ Some v) }
     {

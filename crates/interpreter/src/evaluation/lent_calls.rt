@@ -1,10 +1,10 @@
 //! Calls, perhaps cast, whose values lie in a row at the turns of a run: the numbers there are lent. The first index rises by one at each
 //! turn, and may stay at ends; the others are the same at all turns.
 
-ghost use Rattle.std.specs.Prelude.{◌∷◌, ◌≤◌, ◌+◌, IfSome, length};
+ghost use Rattle.std.specs.Prelude.{◌≡◌, ◌∷◌, ◌≤◌, ◌+◌, ℕ, ℤ, List, Option, IfSome, length};
 ghost use Rattle.plan.specs.Semantics.Found.{found, all_found, with};
 ghost use Rattle.plan.specs.Semantics.Memory.{Memory};
-ghost use Rattle.tree.specs.Term.{term_of, indices, list_terms, Cast};
+ghost use Rattle.tree.specs.Term.{term_of, indices, list_terms};
 ghost use Rattle.tree.specs.declared.value.Value.{Value as ValueFound};
 ghost use Rattle.interpreter.specs.Evaluation.Lanes.{clamped_number, found_as};
 ghost use Rattle.interpreter.specs.Evaluation.Lending.{lent, FindsLent, FindsTerm};
@@ -13,9 +13,10 @@ use crate::evaluation::lanes::ClampedRamp;
 use crate::evaluation::lent_row::{LentOperand, LentTerm, word_of};
 use crate::evaluation::looking::bends_of;
 use crate::evaluation::run_reader::RunReader;
-use crate::evaluation::usual_calls::{moved_rising, ramp_between, standing_number};
+use crate::evaluation::usual_calls::{later_numbers, moved_rising, ramp_between};
 use crate::evaluation::usual_indices::literal_value;
 use crate::evaluation::whole::number_of;
+use crate::scanlines::window;
 use numeric::{Op, Ty};
 use tree::Expr;
 
@@ -115,64 +116,6 @@ fn lend_along<'a, R: RunReader>(
     }
 }
 
-/// The numbers that are lent for such a call of one index, cast to the type, if there is one.
-fn lend_at_one<'a, R: RunReader>(
-    name: &str,
-    at: &[Expr],
-    cast: Option<Ty>,
-    reader: &'a R,
-    register: &mut [u32],
-) -> Option<LentOperand<'a>>
-    ensures room { IfSome result (λ o. o.before + length (lent o.numbers) ≤ length register.new) }
-    ensures value { IfSome result (λ o. (m : Memory ValueFound) → R.agrees reader.now m → FindsLent (length register.new) o (λ k. found_as cast (with (all_found (R.variables reader.now k) (R.look reader.now m) (indices (list_terms at.now))) (λ zs. R.look reader.now m name.now zs)))) }
-{
-    if at.len() != 1 {
-        return None;
-    }
-    let operand = lend_along(name, &at[0], &[], cast, reader, register)?;
-    Some(operand)
-}
-
-/// The numbers that are lent for such a call of two indices, cast to the type, if there is one.
-fn lend_at_two<'a, R: RunReader>(
-    name: &str,
-    at: &[Expr],
-    cast: Option<Ty>,
-    reader: &'a R,
-    register: &mut [u32],
-) -> Option<LentOperand<'a>>
-    ensures room { IfSome result (λ o. o.before + length (lent o.numbers) ≤ length register.new) }
-    ensures value { IfSome result (λ o. (m : Memory ValueFound) → R.agrees reader.now m → FindsLent (length register.new) o (λ k. found_as cast (with (all_found (R.variables reader.now k) (R.look reader.now m) (indices (list_terms at.now))) (λ zs. R.look reader.now m name.now zs)))) }
-{
-    if at.len() != 2 {
-        return None;
-    }
-    let second = standing_number(&at[1], reader, register)?;
-    let operand = lend_along(name, &at[0], &[second], cast, reader, register)?;
-    Some(operand)
-}
-
-/// The numbers that are lent for such a call of three indices, cast to the type, if there is one.
-fn lend_at_three<'a, R: RunReader>(
-    name: &str,
-    at: &[Expr],
-    cast: Option<Ty>,
-    reader: &'a R,
-    register: &mut [u32],
-) -> Option<LentOperand<'a>>
-    ensures room { IfSome result (λ o. o.before + length (lent o.numbers) ≤ length register.new) }
-    ensures value { IfSome result (λ o. (m : Memory ValueFound) → R.agrees reader.now m → FindsLent (length register.new) o (λ k. found_as cast (with (all_found (R.variables reader.now k) (R.look reader.now m) (indices (list_terms at.now))) (λ zs. R.look reader.now m name.now zs)))) }
-{
-    if at.len() != 3 {
-        return None;
-    }
-    let second = standing_number(&at[1], reader, register)?;
-    let third = standing_number(&at[2], reader, register)?;
-    let others = [second, third];
-    let operand = lend_along(name, &at[0], &others, cast, reader, register)?;
-    Some(operand)
-}
-
 /// The numbers that are lent for such a call, cast to the type, if there is one.
 fn lend_call<'a, R: RunReader>(
     name: &str,
@@ -184,45 +127,25 @@ fn lend_call<'a, R: RunReader>(
     ensures room { IfSome result (λ o. o.before + length (lent o.numbers) ≤ length register.new) }
     ensures value { IfSome result (λ o. (m : Memory ValueFound) → R.agrees reader.now m → FindsLent (length register.new) o (λ k. found_as cast (with (all_found (R.variables reader.now k) (R.look reader.now m) (indices (list_terms at.now))) (λ zs. R.look reader.now m name.now zs)))) }
 {
-    match at.len() {
-        1 => lend_at_one(name, at, cast, reader, register),
-        2 => lend_at_two(name, at, cast, reader, register),
-        3 => lend_at_three(name, at, cast, reader, register),
-        _ => None,
+    let [first, behind @ ..] = at else {
+        return None;
+    };
+    let later = later_numbers(behind, reader, register)?;
+    let numbers = [later.second, later.third];
+    let others = window(&numbers, 0, later.count)?;
+    let operand = lend_along(name, first, others, cast, reader, register)?;
+    Some(operand)
+}
+
+/// What an expression is the cast of, and the type that it is cast to; the expression itself, where it is no cast.
+#[inline(always)]
+fn uncast(expr: &Expr) -> (Option<Ty>, &Expr)
+    ensures { (vs : List ℕ → ℤ) (look : List ℕ → List ℤ → Option ValueFound) → found vs look (term_of expr.now) ≡ found_as result.0 (found vs look (term_of result.1.now)) }
+{
+    match expr {
+        Expr::Cast { ty, value, .. } => (Some(*ty), value),
+        _ => (None, expr),
     }
-}
-
-/// The numbers that are lent for an expression that is such a call.
-fn lend_called<'a, R: RunReader>(
-    expr: &Expr,
-    reader: &'a R,
-    register: &mut [u32],
-) -> Option<LentOperand<'a>>
-    ensures room { IfSome result (λ o. o.before + length (lent o.numbers) ≤ length register.new) }
-    ensures value { IfSome result (λ o. (m : Memory ValueFound) → R.agrees reader.now m → FindsLent (length register.new) o (λ k. found (R.variables reader.now k) (R.look reader.now m) (term_of expr.now))) }
-{
-    let Expr::Call { name, at, .. } = expr else {
-        return None;
-    };
-    let operand = lend_call(name.as_str(), at, None, reader, register)?;
-    Some(operand)
-}
-
-/// The numbers that are lent for such a call, cast to the type.
-fn lend_cast<'a, R: RunReader>(
-    ty: Ty,
-    expr: &Expr,
-    reader: &'a R,
-    register: &mut [u32],
-) -> Option<LentOperand<'a>>
-    ensures room { IfSome result (λ o. o.before + length (lent o.numbers) ≤ length register.new) }
-    ensures value { IfSome result (λ o. (m : Memory ValueFound) → R.agrees reader.now m → FindsLent (length register.new) o (λ k. found (R.variables reader.now k) (R.look reader.now m) (Cast ty (term_of expr.now)))) }
-{
-    let Expr::Call { name, at, .. } = expr else {
-        return None;
-    };
-    let operand = lend_call(name.as_str(), at, Some(ty), reader, register)?;
-    Some(operand)
 }
 
 /// Whether an expression is a call.
@@ -251,11 +174,12 @@ pub(crate) fn lend_value<'a, R: RunReader>(
     ensures room { IfSome result (λ o. o.before + length (lent o.numbers) ≤ length register.new) }
     ensures value { IfSome result (λ o. (m : Memory ValueFound) → R.agrees reader.now m → FindsLent (length register.new) o (λ k. found (R.variables reader.now k) (R.look reader.now m) (term_of expr.now))) }
 {
-    match expr {
-        Expr::Call { .. } => lend_called(expr, reader, register),
-        Expr::Cast { ty, value, .. } => lend_cast(*ty, value, reader, register),
-        _ => None,
-    }
+    let (cast, called) = uncast(expr);
+    let Expr::Call { name, at, .. } = called else {
+        return None;
+    };
+    let operand = lend_call(name.as_str(), at, cast, reader, register)?;
+    Some(operand)
 }
 
 /// The numbers that are lent for an expression that is the product of a literal and such a call, or the cast of one.
@@ -291,6 +215,7 @@ fn lend_product<'a, R: RunReader>(
 }
 
 /// The numbers that are lent for an expression that is such a call, the cast of one, or the product of a literal and one of these.
+#[inline(always)]
 pub(crate) fn lend_term<'a, R: RunReader>(
     expr: &Expr,
     reader: &'a R,

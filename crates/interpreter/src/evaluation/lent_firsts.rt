@@ -21,6 +21,7 @@ use crate::evaluation::lent_calls::{lend_value, may_be_lent};
 use crate::evaluation::lent_operands::is_residue;
 use crate::evaluation::lent_pairs::lent_both;
 use crate::evaluation::lent_row::{LentNumbers, LentOperand};
+use crate::evaluation::lent_triples::lent_three;
 use crate::evaluation::operations::{Difference, Product, Sum};
 use crate::evaluation::residue_kernels::{ResidueOperator, apply_row_by};
 use crate::evaluation::run_reader::RunReader;
@@ -89,8 +90,28 @@ fn lent_by_literal<R: RunReader>(
     Some(first.ty)
 }
 
+/// The values of an operator on two operands, put into the register, where the first is lent, and the second is lent too or is a literal.
+fn lent_beside<R: RunReader>(
+    op: Op,
+    left: &Expr,
+    right: &Expr,
+    reader: &R,
+    out: &mut [u32],
+) -> Option<Ty>
+    ensures { IfSome result (λ t. (m : Memory ValueFound) → R.agrees reader.now m → FindsRun (length out.new) (Vector t) out.new (λ k. found (R.variables reader.now k) (R.look reader.now m) (Binary op (term_of left.now) (term_of right.now)))) }
+{
+    if !may_be_lent(left) {
+        return None;
+    }
+    match right {
+        Expr::Literal { .. } => lent_by_literal(op, left, right, reader, out),
+        _ => lent_both(op, left, right, reader, out),
+    }
+}
+
 /// The values of an operator on two operands, put into the register, where the first is lent, the second is lent too or is a literal, and
-/// the operator needs nothing but the lowest bits of them. Nothing where that is not so; then they may still have values.
+/// the operator needs nothing but the lowest bits of them; or where the first is a sum of two that are lent, and the second one too.
+/// Nothing where that is not so; then they may still have values.
 pub(crate) fn lent_first<R: RunReader>(
     op: Op,
     left: &Expr,
@@ -100,11 +121,11 @@ pub(crate) fn lent_first<R: RunReader>(
 ) -> Option<Ty>
     ensures { IfSome result (λ t. (m : Memory ValueFound) → R.agrees reader.now m → FindsRun (length out.new) (Vector t) out.new (λ k. found (R.variables reader.now k) (R.look reader.now m) (Binary op (term_of left.now) (term_of right.now)))) }
 {
-    if !is_residue(op) || !may_be_lent(left) {
+    if !is_residue(op) {
         return None;
     }
-    match right {
-        Expr::Literal { .. } => lent_by_literal(op, left, right, reader, out),
-        _ => lent_both(op, left, right, reader, out),
+    match left {
+        Expr::Binary { .. } => lent_three(op, left, right, reader, out),
+        _ => lent_beside(op, left, right, reader, out),
     }
 }

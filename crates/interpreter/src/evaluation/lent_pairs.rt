@@ -122,13 +122,17 @@ fn apply_turns<O: ResidueOperator>(
 
 /// Turns at which the numbers of two operands are lent.
 #[derive(Clone, Copy, Drop)]
-struct Common {
-    start: usize,
-    end: usize,
+pub(crate) struct Common {
+    pub start: usize,
+    pub end: usize,
 }
 
 /// The turns of so many at which the numbers of both operands are lent, if these are nearly all.
-fn common_turns(left: LentOperand<'_>, right: LentOperand<'_>, count: usize) -> Option<Common>
+pub(crate) fn common_turns(
+    left: LentOperand<'_>,
+    right: LentOperand<'_>,
+    count: usize,
+) -> Option<Common>
     requires left { left.before + length (lent left.numbers) ≤ count }
     requires right { right.before + length (lent right.numbers) ≤ count }
     ensures order { IfSome result (λ c. (c.start ≤ c.end) × (c.end ≤ count)) }
@@ -146,6 +150,35 @@ fn common_turns(left: LentOperand<'_>, right: LentOperand<'_>, count: usize) -> 
         left_end
     } else {
         right_end
+    };
+    if end < start || (count - (end - start)) > count / TURNS_FOR_ONE_APART {
+        return None;
+    }
+    Some(Common { start, end })
+}
+
+/// Those of turns at which the numbers of an operand are lent too, if these are nearly all of so many.
+pub(crate) fn narrowed_turns(
+    common: Common,
+    operand: LentOperand<'_>,
+    count: usize,
+) -> Option<Common>
+    requires common { common.end ≤ count }
+    requires operand { operand.before + length (lent operand.numbers) ≤ count }
+    ensures order { IfSome result (λ c. (c.start ≤ c.end) × (c.end ≤ count)) }
+    ensures within { IfSome result (λ c. common.start ≤ c.start) }
+    ensures operand { IfSome result (λ c. operand.entry.before ≤ c.start) }
+{
+    let start = if common.start < operand.before {
+        operand.before
+    } else {
+        common.start
+    };
+    let behind = operand.before + operand.numbers.count();
+    let end = if behind < common.end {
+        behind
+    } else {
+        common.end
     };
     if end < start || (count - (end - start)) > count / TURNS_FOR_ONE_APART {
         return None;

@@ -6,7 +6,8 @@ ghost use Rattle.plan.specs.Semantics.Memory.{Memory};
 ghost use Rattle.tree.specs.Meaning.{typed};
 ghost use Rattle.tree.specs.Term.{term_of, test_of, indices, list_terms, Cast};
 ghost use Rattle.tree.specs.declared.value.Value.{Value as ValueFound};
-ghost use Rattle.interpreter.specs.Evaluation.Lanes.{found_as, number_at, FindsMask, FindsRun, IsNarrowFor};
+ghost use Rattle.interpreter.specs.Evaluation.Lanes.{found_as, lane, number_at, FindsMask, FindsRun, IsNarrowFor};
+ghost use Rattle.interpreter.specs.Evaluation.Multiples.{multiplied_value};
 ghost use Rattle.interpreter.specs.Evaluation.Words.{bits_at};
 ghost use Rattle.interpreter.specs.declared.evaluation.lanes.Lanes.TheVariants.{Vector};
 
@@ -15,15 +16,16 @@ use crate::evaluation::lanes::{Lanes, Number};
 use crate::evaluation::lent_firsts::lent_first;
 use crate::evaluation::lent_operands::{apply_lent, lent_operand};
 use crate::evaluation::looking::look_run;
+use crate::evaluation::multiples::{Multiple, apply_multiple, makes_multiple};
 use crate::evaluation::repeats::repeat_of;
 use crate::evaluation::run_reader::RunReader;
 use crate::evaluation::usual_calls::usual_call;
-use crate::evaluation::usual_indices::{is_leaf, leaf_lanes, usual_lanes};
+use crate::evaluation::usual_indices::{is_leaf, leaf_lanes, literal_value, usual_lanes};
 use crate::evaluation::whole::{
-    apply_lanes, apply_repeated, choose_lanes, clamp_lanes, compare_lanes, negate_lanes, put_lanes,
-    type_of, widen, wrap_lanes,
+    apply_repeated, choose_lanes, clamp_lanes, compare_lanes, negate_lanes, put_lanes, type_of,
+    widen, wrap_lanes,
 };
-use numeric::Ty;
+use numeric::{Op, Ty};
 use tree::{Cond, Expr};
 
 /// The values of an expression that is a variable or a literal, put into the register: their type.
@@ -133,7 +135,8 @@ fn cast_run<R: RunReader>(
     }
 }
 
-/// The values of an operator, of an expression that is one on two others. A second operand that repeats the first is not evaluated.
+/// The values of an operator, of an expression that is one on two others. A second operand that repeats the first is not evaluated, and
+/// where it is a literal times another expression, that one is.
 #[cycle(evaluate_run)]
 fn binary_run<R: RunReader>(
     expr: &Expr,
@@ -168,9 +171,44 @@ fn binary_run<R: RunReader>(
         let ty = apply_lent(*op, first, operand, out)?;
         return Some(ty);
     }
-    let second = operand_run(right, reader, other, rest)?;
-    let ty = apply_lanes(*op, first, second, out, other)?;
+    let second = multiple_run(right, reader, other, rest)?;
+    let ty = apply_multiple(*op, second.factor, first, second.lanes, out, other)?;
     Some(ty)
+}
+
+/// The values of an expression at the turns of a run. Of the product of a literal and another expression they are the other one's, with
+/// the literal as their factor.
+#[cycle(evaluate_run)]
+fn multiple_run<R: RunReader>(
+    expr: &Expr,
+    reader: &R,
+    out: &mut [u32],
+    rest: &mut [u32],
+) -> Option<Multiple>
+    ensures { IfSome result (λ x. (m : Memory ValueFound) → R.agrees reader.now m → (k : ℕ) → k < length out.new → found (R.variables reader.now k) (R.look reader.now m) (term_of expr.now) ≡ Some (multiplied_value x.factor (lane x.lanes out.new k))) }
+{
+    match expr {
+        Expr::Binary {
+            op: Op::Mul,
+            left,
+            right,
+            ..
+        } if makes_multiple(left, right) => {
+            let factor = literal_value(left)?;
+            let lanes = operand_run(right, reader, out, rest)?;
+            Some(Multiple {
+                factor: Some(factor),
+                lanes,
+            })
+        }
+        _ => {
+            let lanes = operand_run(expr, reader, out, rest)?;
+            Some(Multiple {
+                factor: None,
+                lanes,
+            })
+        }
+    }
 }
 
 /// The values between two others, of an expression that is such.

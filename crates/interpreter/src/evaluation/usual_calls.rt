@@ -1,7 +1,7 @@
 //! Calls as most are: the first index is a variable that rises by one from turn to turn, the others are variables that stay, or
 //! literals; each with a literal added or taken away, perhaps, and between two literals. Their numbers take no registers.
 
-ghost use Rattle.std.specs.Prelude.{◌≡◌, ◌∷◌, ◌<◌, ◌+ℤ◌, ℕ, pos, IfSome, Some, length};
+ghost use Rattle.std.specs.Prelude.{◌≡◌, ◌∷◌, [], ◌<◌, ◌+ℤ◌, ℕ, pos, take, IfSome, Some, length};
 ghost use Rattle.numeric.specs.declared.ty.Ty.TheVariants.{I32};
 ghost use Rattle.plan.specs.Semantics.Found.{found, all_found, with};
 ghost use Rattle.plan.specs.Semantics.Memory.{Memory};
@@ -17,6 +17,7 @@ use crate::evaluation::operators::{applied, clamped};
 use crate::evaluation::run_reader::RunReader;
 use crate::evaluation::usual_indices::literal_value;
 use crate::evaluation::whole::{move_ramp, number_of};
+use crate::scanlines::window;
 use numeric::Ty;
 use tree::{Expr, Value};
 
@@ -145,6 +146,50 @@ pub(crate) fn ramp_between(first: i64, low: Value, high: Value) -> ClampedRamp
     }
 }
 
+/// The numbers of a call's indices behind the first one, which are two at most, and how many there are.
+#[derive(Clone, Copy, Drop)]
+pub(crate) struct LaterNumbers {
+    pub second: i64,
+    pub third: i64,
+    pub count: usize,
+}
+
+/// The numbers of a call's indices behind the first one, where each of these stays.
+#[inline(always)]
+pub(crate) fn later_numbers<R: RunReader>(
+    later: &[Expr],
+    reader: &R,
+    out: &mut [u32],
+) -> Option<LaterNumbers>
+    ensures { IfSome result (λ n. (m : Memory ValueFound) → R.agrees reader.now m → (k : ℕ) → k < length out.new → all_found (R.variables reader.now k) (R.look reader.now m) (indices (list_terms later.now)) ≡ Some (take n.count (n.second ∷ n.third ∷ []))) }
+{
+    match later {
+        [] => Some(LaterNumbers {
+            second: 0,
+            third: 0,
+            count: 0,
+        }),
+        [only] => {
+            let second = standing_number(only, reader, out)?;
+            Some(LaterNumbers {
+                second,
+                third: 0,
+                count: 1,
+            })
+        }
+        [next, last] => {
+            let second = standing_number(next, reader, out)?;
+            let third = standing_number(last, reader, out)?;
+            Some(LaterNumbers {
+                second,
+                third,
+                count: 2,
+            })
+        }
+        _ => None,
+    }
+}
+
 /// What a name finds at the turns of a run along a row, where the first index rises and these are the others.
 fn rising_row<R: RunReader>(
     name: &str,
@@ -207,61 +252,6 @@ fn usual_row<R: RunReader>(
     }
 }
 
-/// What such a call of one index finds at the turns of a run, cast to the type, if there is one.
-fn call_at_one<R: RunReader>(
-    name: &str,
-    at: &[Expr],
-    cast: Option<Ty>,
-    reader: &R,
-    out: &mut [u32],
-) -> Option<Ty>
-    ensures { IfSome result (λ t. (m : Memory ValueFound) → R.agrees reader.now m → FindsRun (length out.new) (Vector t) out.new (λ k. found_as cast (with (all_found (R.variables reader.now k) (R.look reader.now m) (indices (list_terms at.now))) (λ zs. R.look reader.now m name.now zs)))) }
-{
-    if at.len() != 1 {
-        return None;
-    }
-    let ty = usual_row(name, &at[0], &[], cast, reader, out)?;
-    Some(ty)
-}
-
-/// What such a call of two indices finds at the turns of a run, cast to the type, if there is one.
-fn call_at_two<R: RunReader>(
-    name: &str,
-    at: &[Expr],
-    cast: Option<Ty>,
-    reader: &R,
-    out: &mut [u32],
-) -> Option<Ty>
-    ensures { IfSome result (λ t. (m : Memory ValueFound) → R.agrees reader.now m → FindsRun (length out.new) (Vector t) out.new (λ k. found_as cast (with (all_found (R.variables reader.now k) (R.look reader.now m) (indices (list_terms at.now))) (λ zs. R.look reader.now m name.now zs)))) }
-{
-    if at.len() != 2 {
-        return None;
-    }
-    let second = standing_number(&at[1], reader, out)?;
-    let ty = usual_row(name, &at[0], &[second], cast, reader, out)?;
-    Some(ty)
-}
-
-/// What such a call of three indices finds at the turns of a run, cast to the type, if there is one.
-fn call_at_three<R: RunReader>(
-    name: &str,
-    at: &[Expr],
-    cast: Option<Ty>,
-    reader: &R,
-    out: &mut [u32],
-) -> Option<Ty>
-    ensures { IfSome result (λ t. (m : Memory ValueFound) → R.agrees reader.now m → FindsRun (length out.new) (Vector t) out.new (λ k. found_as cast (with (all_found (R.variables reader.now k) (R.look reader.now m) (indices (list_terms at.now))) (λ zs. R.look reader.now m name.now zs)))) }
-{
-    if at.len() != 3 {
-        return None;
-    }
-    let second = standing_number(&at[1], reader, out)?;
-    let third = standing_number(&at[2], reader, out)?;
-    let others = [second, third];
-    let ty = usual_row(name, &at[0], &others, cast, reader, out)?;
-    Some(ty)
-}
-
 /// What a usual call finds at the turns of a run, cast to the type, if there is one. Nothing where the call is none, or does not lie
 /// along a row; then it may still find something.
 pub(crate) fn usual_call<R: RunReader>(
@@ -273,10 +263,12 @@ pub(crate) fn usual_call<R: RunReader>(
 ) -> Option<Ty>
     ensures { IfSome result (λ t. (m : Memory ValueFound) → R.agrees reader.now m → FindsRun (length out.new) (Vector t) out.new (λ k. found_as cast (with (all_found (R.variables reader.now k) (R.look reader.now m) (indices (list_terms at.now))) (λ zs. R.look reader.now m name.now zs)))) }
 {
-    match at.len() {
-        1 => call_at_one(name, at, cast, reader, out),
-        2 => call_at_two(name, at, cast, reader, out),
-        3 => call_at_three(name, at, cast, reader, out),
-        _ => None,
-    }
+    let [first, behind @ ..] = at else {
+        return None;
+    };
+    let later = later_numbers(behind, reader, out)?;
+    let numbers = [later.second, later.third];
+    let others = window(&numbers, 0, later.count)?;
+    let ty = usual_row(name, first, others, cast, reader, out)?;
+    Some(ty)
 }

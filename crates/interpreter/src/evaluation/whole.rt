@@ -245,7 +245,7 @@ fn apply_one(op: Op, ty: Ty, out: &mut [u32], right: Number)
 }
 
 /// Puts the words of lanes into a register, if these are of the type and their numbers too.
-fn spread_as(ty: Ty, lanes: Lanes, out: &mut [u32]) -> Option<()>
+pub(crate) fn spread_as(ty: Ty, lanes: Lanes, out: &mut [u32]) -> Option<()>
     ensures ty { IfSome result (λ _. type_of lanes ≡ ty) }
     ensures numbers { IfSome result (λ _. (k : ℕ) → k < length out.new → word_at ty out.new k ≡ lane_number lanes out.old k) }
 {
