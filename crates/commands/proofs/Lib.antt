@@ -6,10 +6,12 @@ pub mod Turns
 pub mod Ways
 mod Between
 mod Coded
+mod Compared
 mod Cropped
 mod Drawn
 mod Failures
 mod Formatted
+mod LeftWords
 mod Limits
 mod Named
 mod Prepared

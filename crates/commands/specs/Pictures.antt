@@ -1,5 +1,5 @@
 -- What the commands that write a picture do to the files.
-use Rattle.std.specs.Prelude.{◌≡◌, ◌⊎◌, ◌≤◌, ◌<◌, ℕ, List, Option, None, Some, Ok, ⊤}
+use Rattle.std.specs.Prelude.{◌≡◌, ◌≢◌, ◌⊎◌, ◌≤◌, ◌<◌, ℕ, List, Option, None, Some, Ok, slice_get, take, ⊤}
 use Rattle.meaning.specs.Image.View.{Frame}
 use Rattle.meaning.specs.Algorithm.{Algorithm}
 use Rattle.algo.specs.Parts.{input_frame}
@@ -171,3 +171,9 @@ IsNotPut old new a fault = IsOfDevice fault × SameOthers old new a.output × ((
 -- nothing was put, for a reason; or all else had succeeded, and all files but the output are as before
 abbrev pub IsRefused : Contents → Contents → AskedPicture → Fault → Type 0
 IsRefused old new a fault = (SameFiles old new × IsReason old a fault) ⊎ IsNotPut old new a fault
+
+-- ---- how two pictures compare
+
+-- the samples before this place are the same, and at it they are not, or one list has ended
+abbrev pub IsFirstDifference : ℕ → List ℕ → List ℕ → Type 0
+IsFirstDifference place xs ys = (take place xs ≡ take place ys) × (slice_get xs place ≢ slice_get ys place)

@@ -1,5 +1,5 @@
 -- Exit statuses.
-use Rattle.std.specs.Prelude.{ℕ}
+use Rattle.std.specs.Prelude.{ℕ, Result, Ok, Err}
 use Rattle.pnm.specs.declared.error.PnmError.{PnmError}
 use Rattle.pnm.specs.declared.error.PnmError.TheVariants as image
 use Rattle.commands.specs.declared.pipeline.fault.Fault.{Fault}
@@ -30,6 +30,11 @@ status_of (Unfinished piece) = 6
 status_of Outside = 3
 status_of (Uncut name) = 3
 status_of Difference = 1
+
+-- 0 where a command is done, else the refusal's
+abbrev pub status_after : Result (Unit {0}) Fault → ℕ
+status_after (Ok _) = 0
+status_after (Err fault) = status_of fault
 
 -- a file's error as a refusal
 abbrev pub fault_of : FileError → Fault

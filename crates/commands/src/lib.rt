@@ -1,6 +1,9 @@
-//! What the commands of `stencil` do that need no schedule, over files and streams that the caller hands in, and what words ask for.
+//! What the commands of `stencil` do that need no schedule, over files and streams that the caller hands in, what words ask for, and
+//! the files and streams of the system.
 #![tactic(auto)]
 
+pub mod asked_files;
+pub mod comparing;
 pub mod crop_command;
 mod device;
 pub mod draw_command;
@@ -20,6 +23,7 @@ mod replay;
 mod request;
 mod reserved;
 mod stream;
+pub mod system;
 mod text_command;
 pub mod tiles_command;
 mod words;
@@ -28,7 +32,7 @@ mod workers;
 /// What hears of the pieces of a picture, as `Files` hands it out, and one that hears nothing.
 pub use crew::{Gate, Unwatched};
 pub use device::{FileError, Files, put_file};
-pub use exit::status;
+pub use exit::{answer, answer_words, status};
 pub use pages::tell_code;
 pub use picture::{algorithm_file, algorithm_in, image_file, picture_command};
 /// What `status` tells the exit status of.
@@ -40,4 +44,4 @@ pub use request::{
 };
 pub use stream::flush;
 pub use text_command::{explain_command, format_command};
-pub use words::read_words;
+pub use words::{read_words, stated_words};

@@ -1,5 +1,6 @@
 //! Places of a text, shown in their lines with marks under them.
 
+use crate::pipeline::Fault;
 use std::io::Write;
 use std::str;
 use tree::token::Span;
@@ -62,6 +63,17 @@ pub fn bytes_of(span: &Span) -> Place {
     Place::Bytes {
         start: span.start,
         end: span.end,
+    }
+}
+
+/// Where in its file a refusal is.
+pub fn place_of(fault: &Fault) -> Option<Place> {
+    match fault {
+        Fault::Algo { span, .. } | Fault::Schedule { span, .. } => Some(bytes_of(span)),
+        Fault::Plan { line, .. } | Fault::Form { line } | Fault::Limit { line } => {
+            Some(Place::Line(*line))
+        }
+        _ => None,
     }
 }
 

@@ -11,6 +11,7 @@ ghost use Rattle.commands.specs.Line.{is_set, line, picture_in, plain_in, replay
 mod codes;
 mod described;
 mod names;
+mod stated;
 mod values;
 
 use crate::limit::{limit_spelled, side_spelled};
@@ -30,6 +31,7 @@ use crate::words::values::unfit;
 use crate::workers::workers_spelled;
 use clap::{ArgMatches, Error};
 use crop::Rect;
+pub use stated::stated_words;
 use std::alloc::{AllocError, Global};
 
 // The value that a word without one gives where it stands.

@@ -1,6 +1,5 @@
 -- What comes of comparing all schedules.
-use Rattle.std.proofs.Common.{◌≡◌, ◌⊎◌, ◌^◌, inl, inr, false, ℕ, List, All, Result, Ok, Err}
-use Rattle.std.specs.Prelude.{IfErr, OnOk}
+use Rattle.std.proofs.Common.{◌≡◌, ◌⊎◌, ◌^◌, inl, inr, false, ℕ, List, All, Ok}
 use Rattle.clap.specs.Words.{Text}
 use Rattle.meaning.specs.Algorithm.{Algorithm}
 use Rattle.algo.specs.Parts.{input_frame}
@@ -48,8 +47,8 @@ among_before files now al names fault same h = record {
 
 module _ (files now : Contents) (a : AskedCompare) (al : Algorithm) (text image samples : List ℕ) (same : SameFiles files now) (holds_text : Holds files a.algorithm text)
     (is_text : IsAlgorithmText text al) (holds_image : Holds files a.input image) (is_image : reading (wanted_of (input_frame al)) image ≡ Ok samples) where
-  pub all_compared : (r : Result (Unit {0}) Fault) → OnOk r (All (IsLegalFile now al) a.schedules) → OnOk r (IsCompared files a)
-  all_compared (Ok u) h = record {
+  pub all_compared : All (IsLegalFile now al) a.schedules → IsCompared files a
+  all_compared h = record {
     text = text;
     algorithm = al;
     image = image;
@@ -60,15 +59,13 @@ module _ (files now : Contents) (a : AskedCompare) (al : Algorithm) (text image 
     is_image = is_image;
     schedules = all_before files now al a.schedules same h;
   }
-  all_compared (Err e) h = tt
 
   -- why the schedules were not compared: the plain picture, which was asked for, was not computed, or one of them is refused
   abbrev pub IsUncompared : Fault → Type 0
   IsUncompared fault = ((a.by_first ≡ false) × IsBudgetSpent al samples (2 ^ 32) fault) ⊎ IsRefusedAmong now al a.schedules fault
 
-  pub one_refused : (r : Result (Unit {0}) Fault) → IfErr r IsUncompared → IfErr r (IsCompareRefused files a)
-  one_refused (Ok u) h = tt
-  one_refused (Err e) (inl h) = inr (inr (inr (inl (record {
+  pub one_refused : (fault : Fault) → IsUncompared fault → IsCompareRefused files a fault
+  one_refused fault (inl h) = inr (inr (inr (inl (record {
     text = text;
     algorithm = al;
     image = image;
@@ -80,7 +77,7 @@ module _ (files now : Contents) (a : AskedCompare) (al : Algorithm) (text image 
     by_plain = h.0;
     refused = h.1;
   }))))
-  one_refused (Err e) (inr among) = inr (inr (inr (inr (record {
+  one_refused fault (inr among) = inr (inr (inr (inr (record {
     text = text;
     algorithm = al;
     image = image;
@@ -89,5 +86,5 @@ module _ (files now : Contents) (a : AskedCompare) (al : Algorithm) (text image 
     is_text = is_text;
     holds_image = holds_image;
     is_image = is_image;
-    refused = among_before files now al a.schedules e same among;
+    refused = among_before files now al a.schedules fault same among;
   }))))

@@ -1,6 +1,6 @@
--- Files that stay as they are behind a refusal, and the words that are left.
-use Rattle.std.proofs.Common.{◌≡◌, ◌∙◌, ap, sym, subst, ℕ, Bool, length, List, map, None, Some, inl, inr, Result, Ok, Err}
-use Rattle.std.specs.Prelude.{OnOk, if◌then◌else◌}
+-- Files that stay as they are behind a refusal, and what is answered on the words that are left.
+use Rattle.std.proofs.Common.{◌≡◌, ◌∙◌, ap, sym, subst, ℕ, length, List, map, None, Some, inl, inr, Result, Ok, Err}
+use Rattle.std.specs.Prelude.{OnOk}
 use Rattle.clap.specs.Words.{Text}
 use Rattle.commands.specs.declared.pipeline.fault.Fault.{Fault}
 use Rattle.stencil.specs.Answer.{CommandAnswers, Ends}
@@ -51,10 +51,6 @@ pub ended_then : {S : Type 0} (contents : S → Contents) (a : Asked) (old : Con
     → Ends old (contents mid) a r → OnOk r (new ≡ mid) → SameFiles (contents mid) (contents new) → Ends old (contents new) a r
 ended_then contents a old mid new (Ok u) h same k = subst (λ s. Ends old (contents s) a (Ok u)) (sym same) h
 ended_then contents a old mid new (Err fault) h same k = refused_then a old (contents mid) (contents new) fault h k
-
--- what is left of the words from a place on: all of them, where `--` stands before it
-abbrev pub left_of : Bool → List Text → List Text
-left_of are_names words = if are_names then words else stated words
 
 -- what the program answers on the words that are left
 pub stated_answer : {A : Type 0} (said : A → Text) (names kept words : List A) (old new : Contents) (status : ℕ) → names ≡ kept → map said kept ≡ stated (map said words)

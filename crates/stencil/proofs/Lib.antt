@@ -1,4 +1,3 @@
-mod Compared
 mod Comparisons
 mod Compiled
 mod Explained

@@ -4,8 +4,7 @@ use Rattle.std.specs.Prelude.{OnOk}
 use Rattle.pnm.specs.declared.error.PnmError.TheVariants.{Device}
 use Rattle.commands.specs.declared.pipeline.fault.Fault.{Fault}
 use Rattle.commands.specs.declared.pipeline.fault.Fault.TheVariants.{Image}
-use Rattle.stencil.specs.Answer.{status_after}
-use Rattle.commands.specs.Status.{status_of}
+use Rattle.commands.specs.Status.{status_after, status_of}
 
 abbrev Answered : Type 0 → (Fault → Type 0) → ℕ → Type 0
 Answered Done Refused status = (((status ≡ 0) ⊎ (status ≡ 5)) × Done) ⊎ ((fault : Fault) × (status ≡ status_of fault) × Refused fault)

@@ -1,5 +1,5 @@
 -- What the program does on its words, and the status that it answers.
-use Rattle.std.specs.Prelude.{◌≡◌, ◌⊎◌, ℕ, List, Option, Result, Ok, Err, IfErr, MatchResult}
+use Rattle.std.specs.Prelude.{◌≡◌, ◌⊎◌, ℕ, List, Option, Result, IfErr, MatchResult}
 use Rattle.clap.specs.Words.{Text}
 use Rattle.commands.specs.declared.pipeline.fault.Fault.{Fault}
 use Rattle.commands.specs.Pipeline.Pictures as streams
@@ -15,12 +15,7 @@ use Rattle.commands.specs.Tilings as tiling
 use Rattle.commands.specs.Draws as drawing
 use Rattle.commands.specs.Formats as formatting
 use Rattle.commands.specs.Pictures.{IsDone, IsOfDevice, IsRefused}
-use Rattle.commands.specs.Status.{status_of}
-
--- 0 where a command is done, else the refusal's
-abbrev pub status_after : Result (Unit {0}) Fault → ℕ
-status_after (Ok _) = 0
-status_after (Err fault) = status_of fault
+use Rattle.commands.specs.Status.{status_after, status_of}
 
 -- without words, from the input to the output: all is done; or it is, but the output could not hand it on; or there is a refusal
 abbrev pub StreamsAnswer : List ℕ → List ℕ → Option (List ℕ) → Option (List ℕ) → Option (List ℕ) → Option (List ℕ) → ℕ → Type 0

@@ -1,5 +1,5 @@
 -- What the command that compares schedules finds.
-use Rattle.std.specs.Prelude.{◌≡◌, ◌≢◌, ◌⊎◌, ◌^◌, ℕ, List, All, Some, Ok, false, slice_get, take}
+use Rattle.std.specs.Prelude.{◌≡◌, ◌⊎◌, ◌^◌, ℕ, List, All, Some, Ok, false, slice_get, take}
 use Rattle.clap.specs.Words.{Text}
 use Rattle.meaning.specs.Algorithm.{Algorithm}
 use Rattle.algo.specs.Parts.{input_frame}
@@ -10,14 +10,11 @@ use Rattle.sched.specs.Legal.{IsLegal}
 use Rattle.commands.specs.declared.pipeline.fault.Fault.{Fault}
 use Rattle.commands.specs.Asked.{AskedCompare}
 use Rattle.stencil.specs.Compiles.{HasScheduleFile, IsScheduleFault}
-use Rattle.commands.specs.Files.{Contents, Holds}
+use Rattle.commands.specs.Files.{Contents, Holds, SameFiles}
+use Rattle.commands.specs.Sources.{IsAlgorithmFile}
 use Rattle.commands.specs.Pictures.{IsImageFault, IsOfDevice, IsTextFault}
 use Rattle.stencil.specs.Compiling.{IsNotCompiled}
 use Rattle.commands.specs.Pipeline.Pictures.{IsBudgetSpent}
-
--- the samples before this place are the same, and at it they are not, or one list has ended
-abbrev pub IsFirstDifference : ℕ → List ℕ → List ℕ → Type 0
-IsFirstDifference place xs ys = (take place xs ≡ take place ys) × (slice_get xs place ≢ slice_get ys place)
 
 -- the file of this name is a schedule's text, and the schedule is legal
 abbrev pub IsLegalFile : Contents → Algorithm → Text → Type 0
@@ -94,3 +91,13 @@ pub record ScheduleRefused (files : Contents) (a : AskedCompare) (fault : Fault)
 abbrev pub IsCompareRefused : Contents → AskedCompare → Fault → Type 0
 IsCompareRefused files a fault =
     IsOfDevice fault ⊎ (TextRefused files a fault ⊎ (ImageRefused files a fault ⊎ (PictureRefused files a fault ⊎ ScheduleRefused files a fault)))
+
+-- ---- of an algorithm that was read
+
+-- the schedules were compared, whichever files these are that the algorithm was read of
+abbrev pub IsComparedBy : Contents → AskedCompare → Algorithm → Type 0
+IsComparedBy now a al = (files : Contents) → SameFiles files now → IsAlgorithmFile files a.algorithm al → IsCompared files a
+
+-- why they were not
+abbrev pub IsCompareRefusedBy : Contents → AskedCompare → Algorithm → Fault → Type 0
+IsCompareRefusedBy now a al fault = (files : Contents) → SameFiles files now → IsAlgorithmFile files a.algorithm al → IsCompareRefused files a fault

@@ -1,75 +1,25 @@
 //! The command that compares the pictures of schedules with the plain one.
 
-ghost use Rattle.std.specs.Prelude.{◌≡◌, ◌⊎◌, ◌^◌, ℕ, All, IfErr, IfOk, OnOk, false, map, true};
+ghost use Rattle.std.specs.Prelude.{◌≡◌, ◌⊎◌, ◌^◌, All, IfErr, IfOk, OnOk, false, map};
 ghost use Rattle.algo.specs.View.{algorithm_of, picture_said, samples_of, IsFor};
-ghost use Rattle.checked_plan.specs.View.{algorithm_checked};
-ghost use Rattle.meaning.specs.Image.View.{image_of, numbers};
-ghost use Rattle.stencil.specs.declared.compare.Comparison.{Comparison};
+ghost use Rattle.meaning.specs.Image.View.{image_of};
+ghost use Rattle.commands.specs.declared.comparing.Comparison.{Comparison};
 ghost use Rattle.commands.specs.Asked.{compare_asked};
-ghost use Rattle.stencil.specs.Compares.{IsCompared, IsCompareRefused, IsFirstDifference, IsLegalFile, IsRefusedAmong, IsUnplanned};
+ghost use Rattle.stencil.specs.Compares.{IsCompared, IsComparedBy, IsCompareRefused, IsCompareRefusedBy, IsLegalFile, IsRefusedAmong, IsUnplanned};
 ghost use Rattle.commands.specs.Files.{SameFiles};
-ghost use Rattle.commands.specs.Pictures.{IsOfDevice};
 ghost use Rattle.commands.specs.Pipeline.Pictures.{IsBudgetSpent};
 
 use crate::compiling::compile_checked;
 use crate::schedule_command::schedule_in;
 use algo::{Algo, Inputs};
 use checked_plan::Checked;
-use commands::pipeline::{BUDGET, Fault, plain_picture, plan_picture};
-use commands::plan_command::costs_told;
-use commands::{CompareRequest, Files, algorithm_file, flush, image_file};
-use meaning::image::{Image, Samples};
-use pnm::PnmError;
+use commands::comparing::{Baseline, Comparison, compare_checked, first_of};
+use commands::pipeline::{BUDGET, Fault, plain_picture};
+use commands::{CompareRequest, Files, algorithm_file, image_file};
+use meaning::image::Image;
 use std::alloc::Global;
 use std::io::Write;
 use std::thread::Threads;
-
-/// How the samples of two pictures compare.
-#[derive(Clone, Copy, PartialEq, Eq, Drop)]
-enum Comparison {
-    /// They are the same.
-    Same,
-    /// The place, in raster order, of the first sample that is another.
-    DiffersAt(usize),
-}
-
-/// What schedules' pictures are compared with: the picture that an algorithm says of an input.
-#[derive(Clone, Copy, Drop)]
-struct Baseline<'a> {
-    algo: &'a Algo,
-    inputs: &'a Inputs,
-    picture: &'a Image,
-}
-
-fn compared(plain: &Samples, picture: &Samples) -> Comparison
-    ensures same { result ≡ Comparison.Same → numbers plain.now ≡ numbers picture.now }
-    ensures differs { (place : ℕ) → result ≡ Comparison.DiffersAt place → IsFirstDifference place (numbers plain.now) (numbers picture.now) }
-{
-    let (all, found) = (plain.len(), picture.len());
-    let mut place = 0;
-    while place < all && place < found && plain.at(place) == picture.at(place) {
-        place += 1;
-    }
-    if place == all && place == found {
-        Comparison::Same
-    } else {
-        Comparison::DiffersAt(place)
-    }
-}
-
-/// Tells how a schedule's picture compares, and what its plan costs.
-fn tell<W: Write>(out: &mut W, name: &str, comparison: Comparison, costs: &str) -> Result<(), Fault>
-    ensures { IfErr result IsOfDevice }
-{
-    let told = match comparison {
-        Comparison::Same => write!(out, "{name} same\n{costs}"),
-        Comparison::DiffersAt(place) => write!(out, "{name} differs at {place}\n{costs}"),
-    };
-    match told {
-        Ok(()) => flush(out),
-        Err(_) => Err(Fault::Image(PnmError::Device)),
-    }
-}
 
 /// The checked plan of the schedule of a file.
 fn checked_in<'a, T: Threads + Sync, F: Files>(
@@ -86,42 +36,6 @@ fn checked_in<'a, T: Threads + Sync, F: Files>(
 {
     let sched = schedule_in(alloc, files, name)?;
     compile_checked(rt, alloc, algo, &sched)
-}
-
-/// The picture that one worker computes by a checked plan. Who watches it is told of each piece.
-fn picture_watched<F: Files>(
-    alloc: Global,
-    files: &F,
-    checked: &Checked<'_>,
-    inputs: &Inputs,
-) -> Result<Image, Fault>
-    requires { IsFor checked.now.algo.now inputs.now }
-    ensures picture { IfOk result (λ image. image_of image ≡ picture_said (algorithm_checked checked.now) (samples_of inputs.now)) }
-    ensures refused { IfErr result IsOfDevice }
-{
-    let watch = files.watch(checked.pieces());
-    plan_picture(alloc, checked, inputs, &watch)
-}
-
-/// Has one worker compute the picture by a checked plan, and tells how it compares. All memory is taken before the first piece.
-fn compare_checked<F: Files, W: Write>(
-    alloc: Global,
-    files: &F,
-    out: &mut W,
-    baseline: &Baseline<'_>,
-    checked: &Checked<'_>,
-    name: &str,
-) -> Result<Comparison, Fault>
-    requires inputs { IsFor checked.now.algo.now baseline.now.inputs.now }
-    requires picture { image_of baseline.now.picture.now ≡ picture_said (algorithm_checked checked.now) (samples_of baseline.now.inputs.now) }
-    ensures picture { IfOk result (λ comparison. comparison ≡ Comparison.Same) }
-    ensures refused { IfErr result IsOfDevice }
-{
-    let costs = costs_told(alloc, checked)?;
-    let image = picture_watched(alloc, files, checked, baseline.inputs)?;
-    let comparison = compared(&baseline.picture.samples, &image.samples);
-    tell(out, name, comparison, costs.as_str())?;
-    Ok(comparison)
 }
 
 /// Compiles the schedule of a file, has one worker compute the picture by its plan, and tells how it compares.
@@ -169,35 +83,6 @@ fn compare_schedules<T: Threads + Sync, F: Files, W: Write>(
     } else {
         Ok(())
     }
-}
-
-/// Tells that pictures are compared with the one of this schedule, and what its plan costs.
-fn tell_first<W: Write>(out: &mut W, name: &str, costs: &str) -> Result<(), Fault>
-    ensures { IfErr result IsOfDevice }
-{
-    match write!(out, "pictures are compared with that of {name}\n{costs}") {
-        Ok(()) => flush(out),
-        Err(_) => Err(Fault::Image(PnmError::Device)),
-    }
-}
-
-/// The picture that one worker computes by a checked plan, which is told to be what others are compared with.
-fn first_of<F: Files, W: Write>(
-    alloc: Global,
-    files: &F,
-    out: &mut W,
-    checked: &Checked<'_>,
-    inputs: &Inputs,
-    name: &str,
-) -> Result<Image, Fault>
-    requires inputs { IsFor checked.now.algo.now inputs.now }
-    ensures picture { IfOk result (λ image. image_of image ≡ picture_said (algorithm_checked checked.now) (samples_of inputs.now)) }
-    ensures refused { IfErr result IsOfDevice }
-{
-    let costs = costs_told(alloc, checked)?;
-    let image = picture_watched(alloc, files, checked, inputs)?;
-    tell_first(out, name, costs.as_str())?;
-    Ok(image)
 }
 
 /// The picture of the schedule of a file, computed by one worker by its checked plan, which is told to be what others are
@@ -299,6 +184,23 @@ fn compare_by<T: Threads + Sync, F: Files, W: Write>(
     }
 }
 
+/// Reads the image, and compares the pictures of all schedules of an algorithm.
+fn compare_of<T: Threads + Sync, F: Files, W: Write>(
+    rt: &T,
+    alloc: Global,
+    files: &mut F,
+    out: &mut W,
+    algo: &Algo,
+    request: &CompareRequest<'_>,
+) -> Result<(), Fault>
+    ensures same { SameFiles (F.contents files.old) (F.contents files.new) }
+    ensures done { OnOk result (IsComparedBy (F.contents files.old) (compare_asked request.now) (algorithm_of algo.now)) }
+    ensures refused { IfErr result (IsCompareRefusedBy (F.contents files.old) (compare_asked request.now) (algorithm_of algo.now)) }
+{
+    let inputs = image_file(alloc, files, algo, request.input)?;
+    compare_by(rt, alloc, files, out, algo, &inputs, request)
+}
+
 /// Compares the picture of each schedule, computed by one worker, with the plain picture of an image, and tells for each
 /// whether it is the same, and what its plan costs.
 ///
@@ -321,6 +223,5 @@ pub(crate) fn compare_command<T: Threads + Sync, F: Files, W: Write>(
     ensures refused { IfErr result (IsCompareRefused (F.contents files.old) (compare_asked request.now)) }
 {
     let algo = algorithm_file(alloc, files, request.algorithm)?;
-    let inputs = image_file(alloc, files, &algo, request.input)?;
-    compare_by(rt, alloc, files, out, &algo, &inputs, request)
+    compare_of(rt, alloc, files, out, &algo, request)
 }

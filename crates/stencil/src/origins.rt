@@ -5,6 +5,7 @@ ghost use Rattle.commands.specs.Files.{SameFiles};
 use crate::compiling::{compile_checked, plan_text, read_schedule};
 use algo::Algo;
 use blocks::{Breach, find_breach, find_region_breach};
+use commands::asked_files::algorithm_again;
 use commands::pipeline::{BrokenRule, Fault};
 use commands::{Files, algorithm_in};
 use lower::{LowerError, Reason, lower, reason};
@@ -40,36 +41,39 @@ fn is_taken<T: Threads + Sync>(rt: &T, alloc: Global, algo: &Algo, sched: &Sched
     }
 }
 
-/// What a schedule's bytes are read as; none where they are no text.
-fn schedule_of(alloc: Global, bytes: &[u8]) -> Option<Result<Sched, Fault>> {
+/// The schedule of a file's bytes; none where they are no text, or one that is refused.
+fn schedule_of(alloc: Global, bytes: &[u8]) -> Option<Sched> {
     match str::from_utf8(bytes) {
-        Ok(text) => Some(read_schedule(alloc, text)),
+        Ok(text) => read_schedule(alloc, text).ok(),
         Err(_) => None,
     }
 }
 
 /// A schedule as its file is read once more; none where that can't be.
-fn schedule_again<F: Files>(
-    alloc: Global,
-    files: &mut F,
-    name: &str,
-) -> Option<Result<Sched, Fault>>
+fn schedule_again<F: Files>(alloc: Global, files: &mut F, name: &str) -> Option<Sched>
     ensures { SameFiles (F.contents files.old) (F.contents files.new) }
 {
-    let bytes = files.again(alloc, name)?;
+    let Some(bytes) = files.again(alloc, name) else {
+        return None;
+    };
     schedule_of(alloc, bytes.as_slice())
 }
 
-/// A file that is read once more: its name and its bytes; none where that can't be.
-pub(crate) fn file_again<'a, F: Files>(
-    alloc: Global,
-    files: &mut F,
-    name: &'a str,
-) -> Option<(&'a str, Vec<u8>)>
-    ensures { SameFiles (F.contents files.old) (F.contents files.new) }
-{
-    let bytes = files.again(alloc, name)?;
-    Some((name, bytes))
+/// Whether a text is a schedule's; none where memory runs out.
+fn is_schedule(alloc: Global, text: &str) -> Option<bool> {
+    match read_schedule(alloc, text) {
+        Ok(_) => Some(true),
+        Err(Fault::Schedule { .. }) => Some(false),
+        Err(_) => None,
+    }
+}
+
+/// The same of a file's bytes; none, too, where they are no text.
+fn are_schedule(alloc: Global, bytes: &[u8]) -> Option<bool> {
+    match str::from_utf8(bytes) {
+        Ok(text) => is_schedule(alloc, text),
+        Err(_) => None,
+    }
 }
 
 /// The first of these schedules whose text is refused, with its bytes, where one is; none where one before it can't be read
@@ -90,16 +94,16 @@ pub(crate) fn refused_among<'a, F: Files>(
         let Some(bytes) = files.again(alloc, name) else {
             return None;
         };
-        match schedule_of(alloc, bytes.as_slice()) {
-            Some(Ok(_)) => taken = Some(*name),
-            Some(Err(Fault::Schedule { .. })) => return Some((*name, bytes)),
-            _ => return None,
+        match are_schedule(alloc, bytes.as_slice()) {
+            Some(true) => taken = Some(*name),
+            Some(false) => return Some((*name, bytes)),
+            None => return None,
         }
     }
     None
 }
 
-/// The same of a schedule as its file is read once more; none where that can't be.
+/// Whether a plan comes of a schedule, as its file is read once more, that the checker accepts; none where that can't be told.
 fn is_taken_again<T: Threads + Sync, F: Files>(
     rt: &T,
     alloc: Global,
@@ -109,7 +113,7 @@ fn is_taken_again<T: Threads + Sync, F: Files>(
 ) -> Option<bool>
     ensures { SameFiles (F.contents files.old) (F.contents files.new) }
 {
-    let Some(Ok(sched)) = schedule_again(alloc, files, name) else {
+    let Some(sched) = schedule_again(alloc, files, name) else {
         return None;
     };
     is_taken(rt, alloc, algo, &sched)
@@ -154,10 +158,7 @@ fn untaken_again<'a, T: Threads + Sync, F: Files>(
 ) -> Option<&'a str>
     ensures { SameFiles (F.contents files.old) (F.contents files.new) }
 {
-    let Some(text) = files.again(alloc, algorithm) else {
-        return None;
-    };
-    let Ok(algo) = algorithm_in(alloc, text.as_slice()) else {
+    let Some(algo) = algorithm_again(alloc, files, algorithm) else {
         return None;
     };
     first_untaken(rt, alloc, files, &algo, names, last)
@@ -183,6 +184,21 @@ pub(crate) fn schedule_refused<'a, T: Threads + Sync, F: Files>(
     untaken_again(rt, alloc, files, algorithm, before, last)
 }
 
+/// The text of the plan that is made of a schedule as its file is read once more.
+fn plan_of_file<F: Files>(
+    alloc: Global,
+    files: &mut F,
+    algo: &Algo,
+    schedule: &str,
+) -> Option<String>
+    ensures { SameFiles (F.contents files.old) (F.contents files.new) }
+{
+    let Some(sched) = schedule_again(alloc, files, schedule) else {
+        return None;
+    };
+    plan_text(alloc, algo, &sched).ok()
+}
+
 /// The text of the plan that is made of a schedule of an algorithm, where both can be read again.
 #[tactic(auto, using(commands::proofs::Kept::same_then))]
 pub(crate) fn plan_again<F: Files>(
@@ -193,16 +209,35 @@ pub(crate) fn plan_again<F: Files>(
 ) -> Option<String>
     ensures { SameFiles (F.contents files.old) (F.contents files.new) }
 {
-    let Some(text) = files.again(alloc, algorithm) else {
+    let Some(algo) = algorithm_again(alloc, files, algorithm) else {
         return None;
     };
-    let Ok(algo) = algorithm_in(alloc, text.as_slice()) else {
+    plan_of_file(alloc, files, &algo, schedule)
+}
+
+/// What made a schedule break a rule, as its file is read once more.
+fn reason_of_file<F: Files>(
+    alloc: Global,
+    files: &mut F,
+    algo: &Algo,
+    schedule: &str,
+) -> Option<Reason>
+    ensures { SameFiles (F.contents files.old) (F.contents files.new) }
+{
+    let Some(sched) = schedule_again(alloc, files, schedule) else {
         return None;
     };
-    let Some(Ok(sched)) = schedule_again(alloc, files, schedule) else {
+    broken_by(alloc, algo, &sched)
+}
+
+/// The same of an algorithm's text.
+fn reason_in<F: Files>(alloc: Global, files: &mut F, text: &[u8], schedule: &str) -> Option<Reason>
+    ensures { SameFiles (F.contents files.old) (F.contents files.new) }
+{
+    let Ok(algo) = algorithm_in(alloc, text) else {
         return None;
     };
-    plan_text(alloc, &algo, &sched).ok()
+    reason_of_file(alloc, files, &algo, schedule)
 }
 
 /// What made a schedule of an algorithm break a rule, with the algorithm's text, where both can be read again.
@@ -218,13 +253,7 @@ pub(crate) fn reason_again<F: Files>(
     let Some(text) = files.again(alloc, algorithm) else {
         return None;
     };
-    let Ok(algo) = algorithm_in(alloc, text.as_slice()) else {
-        return None;
-    };
-    let Some(Ok(sched)) = schedule_again(alloc, files, schedule) else {
-        return None;
-    };
-    match broken_by(alloc, &algo, &sched) {
+    match reason_in(alloc, files, text.as_slice(), schedule) {
         Some(reason) => Some((text, reason)),
         None => None,
     }
@@ -294,38 +323,8 @@ pub(crate) fn breach_again<F: Files>(
 ) -> Option<(Vec<u8>, Breach)>
     ensures { SameFiles (F.contents files.old) (F.contents files.new) }
 {
-    let Some(text) = files.again(alloc, algorithm) else {
-        return None;
-    };
-    let Ok(algo) = algorithm_in(alloc, text.as_slice()) else {
+    let Some(algo) = algorithm_again(alloc, files, algorithm) else {
         return None;
     };
     breach_of_file(alloc, files, &algo, schedule, rule, function)
-}
-
-/// Whether a file, read once more, is no text.
-fn is_no_text<F: Files>(alloc: Global, files: &mut F, name: &str) -> bool
-    ensures { SameFiles (F.contents files.old) (F.contents files.new) }
-{
-    match files.again(alloc, name) {
-        Some(bytes) => str::from_utf8(bytes.as_slice()).is_err(),
-        None => false,
-    }
-}
-
-/// The first of these files that is no text, of those that can be read again.
-#[tactic(auto, using(commands::proofs::Kept::same_then))]
-pub(crate) fn first_no_text<'a, F: Files>(
-    alloc: Global,
-    files: &mut F,
-    names: &[&'a str],
-) -> Option<&'a str>
-    ensures { SameFiles (F.contents files.old) (F.contents files.new) }
-{
-    for name in names {
-        if is_no_text(alloc, files, name) {
-            return Some(*name);
-        }
-    }
-    None
 }

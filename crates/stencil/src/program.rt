@@ -1,31 +1,26 @@
 //! The program, but for its real files and streams.
 
-ghost use Rattle.std.specs.Prelude.{◌≡◌, ◌≢◌, ◌⊎◌, [], map, IfOk, IfErr, OnOk, IsErrOf};
-ghost use Rattle.std.specs.Io.KnownBytes.{Keeps};
-ghost use Rattle.clap.specs.Words.{kind_of};
+ghost use Rattle.std.specs.Prelude.{◌≡◌, ◌≢◌, ◌⊎◌, [], map, IfErr, OnOk};
 ghost use Rattle.commands.specs.Pipeline.Pictures.{IsDone, IsRefused};
 ghost use Rattle.commands.specs.declared.pipeline.fault.Fault.{Fault};
 ghost use Rattle.pnm.specs.declared.error.PnmError.{PnmError};
 ghost use Rattle.commands.specs.Asked.{asked_by};
 ghost use Rattle.commands.specs.Line.{stated};
-ghost use Rattle.stencil.specs.Answer.{CommandAnswers, Ends, HasEnded, StreamsAnswer, status_after};
+ghost use Rattle.stencil.specs.Answer.{CommandAnswers, Ends, HasEnded, StreamsAnswer};
 
 use crate::compare::compare_command;
 use crate::explaining::{Detail, explain};
 use crate::schedule_command::compile_command;
-use clap::Error;
-use clap::error::ErrorKind;
 use commands::crop_command::crop_command;
 use commands::draw_command::draw_command;
 use commands::pipeline::{Fault, run_over};
 use commands::plan_command::{Telling, plan_command};
 use commands::tiles_command::tiles_command;
 use commands::{
-    Files, Request, explain_command, flush, format_command, picture_command, read_words,
-    replay_command, status,
+    Files, Request, answer, answer_words, explain_command, flush, format_command, picture_command,
+    read_words, replay_command, stated_words,
 };
-use pnm::PnmError;
-use std::alloc::{AllocError, Global};
+use std::alloc::Global;
 use std::io::{Read, Write};
 use std::sync::Wait;
 use std::thread::Threads;
@@ -52,15 +47,6 @@ claim 0 10 b0 out 0 [0:1;0+3*s0:2+7*s0]
 end
 ";
 
-// The status of a command line fault.
-const MISUSED: u8 = 2;
-
-// The word that asks for more of a refusal.
-const EXPLAIN: &str = "--explain";
-
-// The word behind which each word is a name.
-const NAMES_FOLLOW: &str = "--";
-
 /// The increment of an image, by its plan of two pieces.
 fn increment<T: Threads + Sync, R: Read, W: Write>(
     rt: &T,
@@ -74,46 +60,6 @@ fn increment<T: Threads + Sync, R: Read, W: Write>(
 {
     run_over(rt, alloc, INCREMENT, INCREMENT_PLAN, input, out)?;
     flush(out)
-}
-
-/// Prints a text about the program: help, or the version.
-fn print_text<W: Write>(text: &Error, out: &mut W) -> Result<(), Fault>
-    ensures { IfErr result (λ fault. fault ≡ Fault.Image PnmError.Device) }
-{
-    match write!(out, "{text}") {
-        Ok(()) => flush(out),
-        Err(_) => Err(Fault::Image(PnmError::Device)),
-    }
-}
-
-/// The status of what came of a command. A refusal is told in one line; where that can't be written the status stays.
-fn answer<E: Write>(outcome: &Result<(), Fault>, err: &mut E) -> u8
-    ensures { result ≡ status_after outcome.now }
-{
-    match outcome {
-        Ok(()) => 0,
-        Err(fault) => {
-            let _ = writeln!(err, "stencil: {fault}");
-            status(fault)
-        }
-    }
-}
-
-/// The status of words that ask for no command: help or the version is printed, and a fault told.
-fn answer_words<W: Write, E: Write>(error: &Error, out: &mut W, err: &mut E) -> u8
-    ensures memory { kind_of error.now ≡ ErrorKind.OutOfMemory → result ≡ 4 }
-    ensures help { kind_of error.now ≡ ErrorKind.DisplayHelp → (result ≡ 0) ⊎ (result ≡ 5) }
-    ensures version { kind_of error.now ≡ ErrorKind.DisplayVersion → (result ≡ 0) ⊎ (result ≡ 5) }
-    ensures misuse { kind_of error.now ≢ ErrorKind.OutOfMemory → kind_of error.now ≢ ErrorKind.DisplayHelp → kind_of error.now ≢ ErrorKind.DisplayVersion → result ≡ 2 }
-{
-    match error.kind() {
-        ErrorKind::OutOfMemory => answer(&Err(Fault::Memory), err),
-        ErrorKind::DisplayHelp | ErrorKind::DisplayVersion => answer(&print_text(error, out), err),
-        _ => {
-            let _ = write!(err, "{error}");
-            MISUSED
-        }
-    }
 }
 
 /// Does what is asked for.
@@ -159,21 +105,6 @@ fn carry_out<T: Threads + Wait + Sync, F: Files, W: Write, E: Write>(
     let status = answer(&outcome, err);
     explain(rt, alloc, files, request, &outcome, detail, err);
     status
-}
-
-/// The words without those that ask for more of a refusal. Behind `--` each word is a name, and none asks for more.
-fn stated_words<'a>(alloc: Global, words: &[&'a str]) -> Result<Vec<&'a str>, AllocError>
-    ensures { IfOk result (λ kept. map (λ word. word.now) kept.items ≡ stated (map (λ word. word.now) words.now)) }
-{
-    let mut kept = Vec::with_capacity(alloc, words.len())?;
-    let mut are_names = false;
-    for word in words {
-        are_names = are_names || *word == NAMES_FOLLOW;
-        if are_names || *word != EXPLAIN {
-            kept.push(*word)?;
-        }
-    }
-    Ok(kept)
 }
 
 /// How much is told where so many words ask for more.

@@ -1,6 +1,6 @@
 use Rattle.std.proofs.Common.{inl}
 use Rattle.std.proofs.lemmas.Result.{IfErr-weaker}
-use Rattle.stencil.proofs.compare.picture_watched.Goals as goal
+use Rattle.commands.proofs.comparing.picture_watched.Goals as goal
 
 pub returns-clause-refused : goal.returns-clause-refused
 returns-clause-refused g c =

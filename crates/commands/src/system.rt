@@ -1,7 +1,13 @@
-//! The files of the system.
+//! The files and streams of the system, and the words that it hands over.
 
-use crate::progress::Progress;
-use commands::{FileError, Files};
+mod escaped;
+mod given;
+mod progress;
+
+use crate::device::{FileError, Files};
+use crate::system::progress::Progress;
+pub use escaped::Escaped;
+pub use given::{answer_unread, words_given};
 use std::fs;
 use std::fs::{OpenOptions, TryLockError};
 use std::io::{self, Error, ErrorKind, Read, Write};
@@ -28,8 +34,8 @@ const MOST_AT_ONCE: u64 = 1 << 26;
 /// The files of the system, by their paths; `-` is standard input where a file is read, and standard output where one is
 /// written.
 #[derive(Drop)]
-pub(crate) struct SystemFiles<'a> {
-    pub(crate) rt: &'a HostRuntime,
+pub struct SystemFiles<'a> {
+    rt: &'a HostRuntime,
     /// Room for the name of a file that is being written.
     part: String,
     /// What is told of the file that could not be read or written last; nothing where there was none.
@@ -38,7 +44,10 @@ pub(crate) struct SystemFiles<'a> {
 
 impl<'a> SystemFiles<'a> {
     /// The files, with all memory that writing one takes whose name is one of these words and no link.
-    pub(crate) fn new(rt: &'a HostRuntime, words: &[&str]) -> io::Result<SystemFiles<'a>> {
+    ///
+    /// # Errors
+    /// Of the kind `OutOfMemory` where memory runs out.
+    pub fn new(rt: &'a HostRuntime, words: &[&str]) -> io::Result<SystemFiles<'a>> {
         let longest = words.iter().map(|word| word.len()).max().unwrap_or(0);
         let part = String::with_capacity(rt.alloc(), longest.saturating_add(ENDING))?;
         let failure = String::new(rt.alloc());

@@ -7,8 +7,9 @@ use std::io::{self, Write};
 /// A writer for readers: a control byte but a line feed goes out as its escape, as `\x1b`, so that a name, or a line of a file,
 /// that is echoed does nothing to a terminal.
 #[derive(Drop)]
-pub(crate) struct Escaped<W> {
-    pub(crate) out: W,
+pub struct Escaped<W> {
+    /// Where it goes.
+    pub out: W,
 }
 
 /// How many bytes stand in front of the first one that is escaped.

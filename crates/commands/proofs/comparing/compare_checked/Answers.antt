@@ -1,7 +1,7 @@
 use Rattle.std.proofs.Common.{◌∙◌, ap, sym, List, ℕ}
 use Rattle.meaning.specs.Image.View.{Picture}
-use Rattle.stencil.proofs.Compared.{same_of}
-use Rattle.stencil.proofs.compare.compare_checked.Goals as goal
+use Rattle.commands.proofs.Compared.{same_of}
+use Rattle.commands.proofs.comparing.compare_checked.Goals as goal
 
 pub returns-clause-picture : goal.returns-clause-picture
 returns-clause-picture g c =

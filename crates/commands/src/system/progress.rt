@@ -1,6 +1,6 @@
 //! The line that tells how far a picture has come.
 
-use commands::Gate;
+use crew::Gate;
 use std::io::{IsTerminal, Write};
 use std::sync::atomic::{AtomicBool, AtomicU64, AtomicUsize, Ordering};
 use std::time::Instant;
@@ -15,7 +15,7 @@ const FIRST_TURN: u64 = 8;
 /// than two seconds. It is written at most four times a second, when a piece is finished, and erased with the last one. It takes no
 /// memory.
 #[derive(Drop)]
-pub(crate) struct Progress<'a> {
+pub struct Progress<'a> {
     rt: &'a HostRuntime,
     pieces: usize,
     /// When the picture was begun, where there is a terminal.
