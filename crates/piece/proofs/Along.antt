@@ -1,18 +1,26 @@
 -- The numbers of cells along the first coordinate.
 use Rattle.std.proofs.Common.{◌≡◌, ℕ, ◌+◌, ◌*◌, ◌≤◌, ◌<◌, Bool, true, false, List, [], ◌∷◌, Option, Some, None, refl, ap, ◌∙◌, arith, inl, inr, ℤ, pos, negsuc}
-use Rattle.std.specs.Prelude.{◌+ℤ◌, ◌-ℤ◌, ◌<ℤ◌, ◌≤ℤ◌, ◌&&◌, if◌then◌else◌, length, get_or, slice_get}
+use Rattle.std.specs.Prelude.{◌+ℤ◌, ◌-ℤ◌, ◌<ℤ◌, ◌≤ℤ◌, ◌&&◌, if◌then◌else◌, int_le, length, get_or, slice_get}
+use Rattle.std.specs.List.{list_all}
 use Rattle.std.proofs.lemmas.Bool.{cases_lt}
 use Rattle.std.proofs.lemmas.Int.{ints}
 use Rattle.std.proofs.lemmas.Option.{none-some, same_Some}
 use Rattle.lin.specs.declared.span.Span1.{Span1}
 use Rattle.plan.specs.Plan.{Group, Plan}
-use Rattle.plan.specs.Symbols.{clipped, largest, turns}
+use Rattle.plan.specs.Symbols.{Symbols, clipped, form_value, largest, turns}
 use Rattle.plan.specs.Certificate.Cells.{first_cell, is_in_region, is_in_span, no_symbols}
 use Rattle.soundness.proofs.Refines.{and_parts}
 use Rattle.headline.specs.Numbers.{group_region, has_point, point_rank}
 use Rattle.checked_plan.specs.Output.Cells.{number_in}
 use Rattle.interpreter.specs.CellRows.{along}
-use Rattle.interpreter.proofs.RowVisits.{span_between}
+use Rattle.interpreter.proofs.RowVisits.{span_by_ends}
+
+-- a span that has two numbers has those between them
+span_between : (s : Symbols) (x : Span1) (a b z : ℤ) → is_in_span s x a ≡ true → is_in_span s x b ≡ true → a ≤ℤ z → z ≤ℤ b → is_in_span s x z ≡ true
+span_between s x a b z h g from to =
+    let low = and_parts (list_all (λ l. int_le (form_value l s) a) x.lower) (list_all (λ u. int_le a (form_value u s)) x.upper) h in
+    let high = and_parts (list_all (λ l. int_le (form_value l s) b) x.lower) (list_all (λ u. int_le b (form_value u s)) x.upper) g in
+    span_by_ends s x a b z x.lower x.upper low.0 high.1 from to refl refl
 
 -- ---- numbers that are clipped
 
