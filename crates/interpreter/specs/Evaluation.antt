@@ -5,3 +5,4 @@ pub mod Multiples
 pub mod Quotients
 pub mod Words
 pub mod Lending
+pub mod LentPairs

@@ -30,7 +30,7 @@ use numeric::{Op, Ty};
 use tree::Expr;
 
 /// The words that are lent, where the numbers are kept in words.
-fn words_of(numbers: LentNumbers<'_>) -> Option<&[u32]>
+pub(crate) fn words_of(numbers: LentNumbers<'_>) -> Option<&[u32]>
     ensures { IfSome result (λ ws. ws.now ≡ lent numbers.entry) }
 {
     match numbers {
@@ -40,7 +40,7 @@ fn words_of(numbers: LentNumbers<'_>) -> Option<&[u32]>
 }
 
 /// The bytes that are lent, where the numbers are kept in bytes.
-fn bytes_of(numbers: LentNumbers<'_>) -> Option<&[u8]>
+pub(crate) fn bytes_of(numbers: LentNumbers<'_>) -> Option<&[u8]>
     ensures { IfSome result (λ bs. bs.now ≡ lent numbers.entry) }
 {
     match numbers {
@@ -248,7 +248,7 @@ fn apply_three(
 }
 
 /// Whether an operator is a sum or a difference.
-fn is_sum(op: Op) -> bool {
+pub(crate) fn is_sum(op: Op) -> bool {
     match op {
         Op::Add | Op::Sub => true,
         _ => false,

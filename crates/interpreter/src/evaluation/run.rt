@@ -14,7 +14,7 @@ ghost use Rattle.interpreter.specs.declared.evaluation.lanes.Lanes.TheVariants.{
 use crate::evaluation::kernels::{both_each, either_each, not_each};
 use crate::evaluation::lanes::{Lanes, Number};
 use crate::evaluation::lent_firsts::lent_first;
-use crate::evaluation::lent_operands::{apply_lent, lent_operand};
+use crate::evaluation::lent_seconds::{apply_second, lent_second};
 use crate::evaluation::looking::look_run;
 use crate::evaluation::multiples::{Multiple, apply_multiple, makes_multiple};
 use crate::evaluation::repeats::repeat_of;
@@ -167,8 +167,8 @@ fn binary_run<R: RunReader>(
         let ty = apply_repeated(*op, repeat, first, out, other)?;
         return Some(ty);
     }
-    if let Some(operand) = lent_operand(*op, right, type_of(first), reader, other) {
-        let ty = apply_lent(*op, first, operand, out)?;
+    if let Some(operand) = lent_second(*op, right, type_of(first), reader, other) {
+        let ty = apply_second(*op, first, operand, out)?;
         return Some(ty);
     }
     let second = multiple_run(right, reader, other, rest)?;
